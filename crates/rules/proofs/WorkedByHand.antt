@@ -1,0 +1,10 @@
+-- Every case of document 01 that is marked P holds of the rules: antt computes each row.
+use mathlib.Core.Path.{refl}
+use lib.Ieee.{ofBits}
+use Rattle.rules.specs.Helpers.{larger, smaller}
+use Rattle.rules.specs.Root.{root}
+use Rattle.rules.specs.WorkedByHand.{AllHold, table}
+
+pub worked-by-hand : AllHold table
+unfolding larger smaller root ofBits
+worked-by-hand = (refl, (refl, (refl, (refl, (refl, (refl, tt))))))

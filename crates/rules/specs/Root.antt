@@ -1,0 +1,35 @@
+-- Document 01, "Port order", 1: "Root: correctly rounded to nearest; −0 gives −0, below zero NaN", stated over whole numbers.
+-- IEEE 754-2019, 5.4.1: the root of a number above zero is the exact root, rounded once.
+use Prim.Native.Nat.{ℕ, zero, suc, _+_, _-_, _*_, _/_, _^_, compare}
+use mathlib.Core.Bool.{true, false, cond}
+use lib.Dec.{leb}
+use lib.Ieee.{Float, nan, inf, fin, Format, prec, low, up, down, size, nearest, units}
+
+-- The largest r with r * r at most n, one binary digit a turn: n is below 4 ^ d.
+unfoldable pub rootDigits : ℕ → ℕ → ℕ
+rootDigits zero n = 0
+rootDigits (suc d) n = let r = 2 * rootDigits d (n / 4) in cond (leb ((r + 1) * (r + 1)) n) (r + 1) r
+
+unfoldable pub wholeRoot : ℕ → ℕ
+unfolding rootDigits size
+wholeRoot n = rootDigits (size n) n
+
+-- The format's value nearest to √w, in units of the format's least value. Of the root's whole part the format keeps the `prec` leading digits, q, and
+-- drops k. The next value up lies nearer where √w is above (q + 1/2) * 2 ^ k, which is said with both sides doubled and squared; in a tie the even one is taken.
+unfoldable pub rootOfUnits : Format → ℕ → Float
+unfolding wholeRoot units size
+rootOfUnits f w =
+    let r = wholeRoot w in
+    let k = size r - prec f in
+    let q = r / 2 ^ k in
+    units f false (nearest q (compare (4 * w) ((2 * q + 1) * (2 * q + 1) * (2 ^ k * 2 ^ k)))) k
+
+-- A number m * 2 ^ e above zero is w = m * 2 ^ e * 2 ^ low * 2 ^ low squares of the least value 2 ^ -low, which is whole.
+unfoldable pub root : Format → Float → Float
+unfolding rootOfUnits
+root f nan = nan
+root f (inf true) = nan
+root f (inf false) = inf false
+root f (fin s zero e) = fin s zero e
+root f (fin true (suc m) e) = nan
+root f (fin false (suc m) e) = rootOfUnits f (suc m * up e * (2 ^ low f * 2 ^ low f) / down e)

@@ -1,1 +1,2 @@
+pub mod Helpers
 pub mod WorkedByHand

@@ -4,14 +4,19 @@ use mathlib.Core.Bool.{false, cond}
 use lib.Ieee as Ieee
 use lib.Ieee.{Float, nan, inf, fin, binary64, ofBits, isNan}
 
--- "Larger and smaller of two: a NaN yields to the other operand; in a tie the second is returned."
+-- "A NaN yields to the other operand."
+unfoldable pub yielding : Float → Float → Float → Float
+unfolding isNan
+yielding a b otherwise = cond (isNan a) b (cond (isNan b) a otherwise)
+
+-- "Larger and smaller of two: .. in a tie the second is returned."
 unfoldable pub larger : Float → Float → Float
-unfolding isNan Ieee.lt
-larger a b = cond (isNan a) b (cond (isNan b) a (cond (Ieee.lt b a) a b))
+unfolding yielding Ieee.lt
+larger a b = yielding a b (cond (Ieee.lt b a) a b)
 
 unfoldable pub smaller : Float → Float → Float
-unfolding isNan Ieee.lt
-smaller a b = cond (isNan a) b (cond (isNan b) a (cond (Ieee.lt a b) a b))
+unfolding yielding Ieee.lt
+smaller a b = yielding a b (cond (Ieee.lt a b) a b)
 
 -- "Absolute value clears the sign."
 unfoldable pub magnitude : Float → Float

@@ -1,0 +1,17 @@
+-- `float::smaller` meets its contract: each arm returns what the rule's tests pick.
+use mathlib.Core.Path.{sym, _∙_}
+use Rattle.rules.proofs.Helpers.{smaller-tested}
+use Rattle.float.proofs.smaller.Statement.{statement}
+use Rattle.float.proofs.smaller.Tie as tie
+
+returns : tie.Need-returns
+returns c = rw (smaller-tested (c .before .args .a) (c .before .args .b), c .if1 .taken)
+
+returns-2 : tie.Need-returns-2
+returns-2 c = rw (smaller-tested (c .before .before .args .a) (c .before .before .args .b), c .before .if1 .left, c .if2 .taken)
+
+returns-3 : tie.Need-returns-3
+returns-3 c = rw (smaller-tested (c .before .before .args .a) (c .before .before .args .b), c .before .if1 .left, c .if2 .left)
+
+pub smaller-spec : {M : Type 1} → statement M
+smaller-spec = tie.close (tie.spec returns returns-2 returns-3)

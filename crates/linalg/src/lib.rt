@@ -1,0 +1,53 @@
+// The vector routines of floatgeneric.rs. A routine that takes two lengths answers a plain no, and
+// changes nothing, where they don't fit; no length is too large.
+ghost use mathlib.Core.Path.{_≡_};
+ghost use mathlib.Core.Bool.{_&&_};
+ghost use Rattle.rules.specs.Outcome.{Outcome};
+ghost use Rattle.rules.specs.Vectors.{sameLength, scaled, added, shifted, transformedDi};
+ghost use Rattle.rules.specs.Vectors as rules;
+
+// The root of the sum of squares.
+pub fn norm(x: &[f64]) -> f64
+    ensures { λ r. ⌜ r ≡ rules.norm (now (x .entry)) ⌝ }
+{
+    let mut sum = 0.0;
+    for i in 0..x.len() {
+        sum = sum + x[i] * x[i];
+    }
+    float::reciprocal(sum)
+}
+
+// y becomes x.
+pub fn copy(x: &[f64], y: &mut [f64]) -> bool
+    ensures { λ r. ⌜ Outcome (sameLength (now (x .entry)) (now (y .entry))) (now (x .entry)) (now (y .entry)) r (now (y .exit)) ⌝ }
+{
+    if x.len() != y.len() {
+        return false;
+    }
+    for i in 0..x.len() {
+        y[i] = x[i];
+    }
+    true
+}
+
+// x becomes alpha * x.
+pub fn scale(alpha: f64, x: &mut [f64])
+    ensures { λ _. ⌜ now (x .exit) ≡ scaled alpha (now (x .entry)) ⌝ }
+{
+    for i in 0..x.len() {
+        x[i] = alpha * x[i];
+    }
+}
+
+// y becomes y + alpha * x.
+pub fn add(alpha: f64, x: &[f64], y: &mut [f64]) -> bool
+    ensures { λ r. ⌜ Outcome (sameLength (now (x .entry)) (now (y .entry))) (added alpha (now (x .entry)) (now (y .entry))) (now (y .entry)) r (now (y .exit)) ⌝ }
+{
+    if x.len() != y.len() {
+        return false;
+    }
+    for i in 0..x.len() {
+        y[i] = y[i] + alpha * x[i];
+    }
+    true
+}

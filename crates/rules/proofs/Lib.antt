@@ -1,2 +1,4 @@
 pub mod Helpers
+pub mod Arithmetic
+pub mod Outcome
 pub mod WorkedByHand

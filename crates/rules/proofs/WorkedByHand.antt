@@ -1,10 +1,11 @@
 -- Every case of document 01 that is marked P holds of the rules: antt computes each row.
 use mathlib.Core.Path.{refl}
-use lib.Ieee.{ofBits}
+use lib.Ieee.{ofBits, ofInt, neg}
 use Rattle.rules.specs.Helpers.{larger, smaller}
 use Rattle.rules.specs.Root.{root}
+use Rattle.rules.specs.Matrices.{opped, transOpped, absaddedCols, absaddedRows}
 use Rattle.rules.specs.WorkedByHand.{AllHold, table}
 
 pub worked-by-hand : AllHold table
-unfolding larger smaller root ofBits
-worked-by-hand = (refl, (refl, (refl, (refl, (refl, (refl, tt))))))
+unfolding ofBits ofInt neg larger smaller root opped transOpped absaddedCols absaddedRows
+worked-by-hand = (refl, (refl, (refl, (refl, (refl, (refl, (refl, (refl, (refl, (refl, tt))))))))))

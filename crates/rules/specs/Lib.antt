@@ -1,4 +1,9 @@
 -- Document 01 as definitions, in its order.
+pub mod Limits
+pub mod Outcome
 pub mod Helpers
 pub mod Root
+pub mod Arithmetic
+pub mod Vectors
+pub mod Matrices
 pub mod WorkedByHand

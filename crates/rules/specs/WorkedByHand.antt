@@ -2,8 +2,14 @@
 use Prim.Native.Nat.{ℕ}
 use mathlib.Core.Path.{_≡_}
 use mathlib.Core.List.{List, [], _∷_}
-use lib.Ieee.{Float, nan, binary64, ofBits}
+use lib.IntN.{pos, negsuc}
+use mathlib.Core.Bool.{false}
+use lib.Ieee.{Float, nan, fin, binary64, ofBits, ofInt, neg}
+use Rattle.rules.specs.declared.MatType.{MatType}
+use Rattle.rules.specs.declared.MatType.the-variants.{General, SymPack}
+use Rattle.rules.specs.Arithmetic.{+0}
 use Rattle.rules.specs.Helpers.{larger, smaller}
+use Rattle.rules.specs.Matrices.{opped, transOpped, absaddedRows, absaddedCols}
 use Rattle.rules.specs.Root.{root}
 
 -- A row says what a term of the rules comes to.
@@ -21,18 +27,43 @@ AllHold (r ∷ rows) = Holds r × AllHold rows
 abbrev f64 : ℕ → Float
 f64 bits = ofBits binary64 bits
 
-abbrev +0 : Float
-+0 = f64 0
-
 abbrev −0 : Float
 −0 = f64 0x8000_0000_0000_0000
 
+-- the whole number n
+abbrev whole : ℕ → Float
+whole n = ofInt binary64 (pos n)
+
+abbrev minus : ℕ → Float
+minus n = neg (whole n)
+
+-- 1, 2, 3, 4: two rows and two columns, by columns
+abbrev dense : List Float
+dense = whole 1 ∷ whole 2 ∷ whole 3 ∷ whole 4 ∷ []
+
+abbrev two-by-two : MatType
+two-by-two = General (record { 0 = 2 }) (record { 0 = 2 })
+
+-- −1, 2, −3: the upper triangle of a matrix of order 2
+abbrev packed : List Float
+packed = minus 1 ∷ whole 2 ∷ minus 3 ∷ []
+
+abbrev symmetric : MatType
+symmetric = SymPack (record { 0 = 2 })
+
+abbrev pair : Float → Float → List Float
+pair a b = a ∷ b ∷ []
+
 abbrev pub table : List Row
 table =
-    (root binary64 (f64 0x4010_0000_0000_0000) comes-to f64 0x4000_0000_0000_0000)
+    (root binary64 (whole 4) comes-to whole 2)
     ∷ (root binary64 −0 comes-to −0)
-    ∷ (root binary64 (f64 1) comes-to f64 0x1e60_0000_0000_0000)
-    ∷ (root binary64 (f64 0x4000_0000_0000_0000) comes-to f64 0x3ff6_a09e_667f_3bcd)
+    ∷ (root binary64 (fin false 1 (negsuc 1073)) comes-to fin false 1 (negsuc 536))
+    ∷ (root binary64 (whole 2) comes-to f64 0x3ff6_a09e_667f_3bcd)
     ∷ (larger nan +0 comes-to +0)
     ∷ (smaller −0 +0 comes-to +0)
+    ∷ (opped two-by-two (whole 1) dense (pair (whole 1) (whole 1)) +0 (pair +0 +0) comes-to pair (whole 4) (whole 6))
+    ∷ (transOpped two-by-two (whole 1) dense (pair (whole 1) (whole 1)) +0 (pair +0 +0) comes-to pair (whole 3) (whole 7))
+    ∷ (absaddedCols symmetric packed (pair +0 +0) comes-to pair (whole 3) (whole 5))
+    ∷ (absaddedRows symmetric packed (pair +0 +0) comes-to pair (whole 3) (whole 5))
     ∷ []

@@ -1,2 +1,17 @@
 // What is right. The rules stand in specs/, in document 01's order and words; this file declares
 // the types that the rules and the code share.
+
+// The most rows and the most columns of a matrix, which are the largest m and n.
+pub const LIMIT: usize = 256;
+
+// Number of rows and number of columns are types of their own, so the two can't be swapped by mistake.
+pub struct Rows(pub usize);
+
+pub struct Cols(pub usize);
+
+// The kinds of matrix, with their sizes: any matrix by columns, or a symmetric one, of which the upper
+// triangle is stored, by columns.
+pub enum MatType {
+    General(Rows, Cols),
+    SymPack(Rows),
+}

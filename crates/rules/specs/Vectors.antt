@@ -1,0 +1,42 @@
+-- Document 01, "Port order", 2: the vector routines of floatgeneric.rs. A buffer is a list of floats.
+use Prim.Native.Nat.{ℕ, suc, _+_, _-_, _*_, _/_}
+use mathlib.Core.Bool.{Bool, cond}
+use mathlib.Core.List.{List}
+use lib.Dec.{eqb}
+use lib.Ieee.{Float, binary64, add, mul}
+use lib.ListN.{length}
+use Rattle.rules.specs.Helpers.{magnitude}
+use Rattle.rules.specs.Root.{root}
+use Rattle.rules.specs.Arithmetic.{_+ᶠ_, _*ᶠ_, +0, at, sumTo, sumFrom, each}
+
+abbrev pub sameLength : List Float → List Float → Bool
+sameLength x y = eqb (length x) (length y)
+
+unfoldable pub norm : List Float → Float
+unfolding sumFrom root mul
+norm x = root binary64 (sumTo (length x) (λ k. at x k *ᶠ at x k))
+
+unfoldable pub scaled : Float → List Float → List Float
+unfolding each mul
+scaled alpha x = each (λ k v. alpha *ᶠ v) x
+
+unfoldable pub added : Float → List Float → List Float → List Float
+unfolding each add mul
+added alpha x y = each (λ k v. v +ᶠ alpha *ᶠ at x k) y
+
+unfoldable pub shifted : Float → List Float → List Float
+unfolding each add
+shifted s y = each (λ k v. v +ᶠ s) y
+
+-- how many of the places 0, step, 2 * step, .. lie below len, for a step above 0
+abbrev pub strides : ℕ → ℕ → ℕ
+strides len step = (len + (step - 1)) / step
+
+-- "For abssum with step 0 the answer is 0."
+unfoldable pub abssum : List Float → ℕ → Float
+unfolding sumFrom magnitude
+abssum x step = cond (eqb step 0) +0 (sumTo (strides (length x) step) (λ k. magnitude (at x (k * step))))
+
+unfoldable pub transformedDi : Float → List Float → List Float → Float → List Float → List Float
+unfolding each add mul
+transformedDi alpha mat x beta y = each (λ i v. alpha *ᶠ at mat i *ᶠ at x i +ᶠ beta *ᶠ v) y

@@ -51,3 +51,46 @@ pub fn add(alpha: f64, x: &[f64], y: &mut [f64]) -> bool
     }
     true
 }
+
+// y becomes y + s.
+pub fn adds(s: f64, y: &mut [f64])
+    ensures { λ _. ⌜ now (y .exit) ≡ shifted s (now (y .entry)) ⌝ }
+{
+    for i in 0..y.len() {
+        y[i] = y[i] + s;
+    }
+}
+
+// The sum of the absolute values of x[0], x[incx], x[2 * incx], ..
+pub fn abssum(x: &[f64], incx: usize) -> f64
+    ensures { λ r. ⌜ r ≡ rules.abssum (now (x .entry)) incx ⌝ }
+{
+    if incx == 0 {
+        return 0.0;
+    }
+    if x.len() == 0 {
+        return 0.0;
+    }
+    let terms = (x.len() - 1) / incx + 1;
+    let mut sum = 0.0;
+    for k in 0..terms {
+        sum = sum + float::magnitude(x[k * incx]);
+    }
+    sum
+}
+
+// y becomes alpha * mat * x + beta * y, where mat is the diagonal of a matrix.
+pub fn transform_di(alpha: f64, mat: &[f64], x: &[f64], beta: f64, y: &mut [f64]) -> bool
+    ensures { λ r. ⌜ Outcome (sameLength (now (mat .entry)) (now (y .entry)) && sameLength (now (x .entry)) (now (y .entry))) (transformedDi alpha (now (mat .entry)) (now (x .entry)) beta (now (y .entry))) (now (y .entry)) r (now (y .exit)) ⌝ }
+{
+    if mat.len() != y.len() {
+        return false;
+    }
+    if x.len() != y.len() {
+        return false;
+    }
+    for i in 0..y.len() {
+        y[i] = alpha * mat[i] * x[i] + beta * y[i];
+    }
+    true
+}

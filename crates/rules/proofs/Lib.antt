@@ -1,4 +1,5 @@
 pub mod Helpers
 pub mod Arithmetic
 pub mod Outcome
+pub mod Vectors
 pub mod WorkedByHand

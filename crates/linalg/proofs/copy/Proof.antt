@@ -1,24 +1,26 @@
+-- `linalg::copy` meets its contract.
+use Prim.Native.Nat.{_-_}
+use mathlib.Core.Path.{_≡_, refl, sym, _∙_}
+use lib.ListN.{length}
+use borrow.Author.Tests.{eq-eqb, ne-eqb}
+use Rattle.rules.proofs.Outcome.{refused, done}
+use Rattle.rules.specs.Arithmetic.{at}
+use Rattle.rules.proofs.Arithmetic.{Reached, reached-none, reached-more, reached-all, each-is}
 use borrow.Author.Needs.{needs}
-use native.Mathlib.Omega.{arith}
-use Prim.Native.Nat.{ℕ, _+_, _-_, _*_, _≤_, _<_}
-use mathlib.Core.Path.{_≡_, refl, sym, ap, _∙_}
-use lib.ListN.{length, getD, set, length-set}
 use Rattle.linalg.proofs.copy.Statement.{statement}
 use Rattle.linalg.proofs.copy.Tie as tie
-use Rattle.linalg.proofs.copy.Reads as reads
-use Rattle.linalg.proofs.copy.Lts as lts
 
 abbrev Inv-loop : tie.InvT-loop
-Inv-loop x y₀ i₀ i-end y i = ?
+Inv-loop x y₀ i₀ i-end y i = Reached (λ k v. at x k) i y₀ y × (length x ≡ length y₀) × (i-end ≡ length x)
 
 abbrev μ-loop : tie.MeasureT-loop
-μ-loop x y₀ i₀ i-end y i = ?
+μ-loop x y₀ i₀ i-end y i = length x - i
 
 returns : tie.Need-returns Inv-loop μ-loop
-returns c = search needs
+returns c = refused (ne-eqb _ _ (c .if1 .taken))
 
 loop-holds : tie.Need-loop-holds Inv-loop μ-loop
-loop-holds c = search needs
+loop-holds c = (reached-none _ _, search needs, refl)
 
 mul-y : tie.Need-mul-y Inv-loop μ-loop
 mul-y c = search needs
@@ -39,13 +41,15 @@ loop-less : tie.Need-loop-less Inv-loop μ-loop
 loop-less c = search needs
 
 loop-again : tie.Need-loop-again Inv-loop μ-loop
-loop-again c = search needs
+loop-again c = (reached-more (c .before .before .loop .inv .0) (search needs), search needs, search needs)
 
 same-length : tie.Need-same-length Inv-loop μ-loop
 same-length c = search needs
 
 returns-2 : tie.Need-returns-2 Inv-loop μ-loop
-returns-2 c = search needs
+returns-2 c =
+    let i = c .before .loop .inv in
+    done (eq-eqb _ _ (i .1)) (reached-all (i .0) (search needs) ∙ sym (each-is _ _ _ (i .1) (λ k l. refl)))
 
 pub copy-spec : {M : Type 1} → statement M
 copy-spec =

@@ -2,4 +2,5 @@ pub mod Helpers
 pub mod Arithmetic
 pub mod Outcome
 pub mod Vectors
+pub mod Matrices
 pub mod WorkedByHand

@@ -15,3 +15,30 @@ pub enum MatType {
     General(Rows, Cols),
     SymPack(Rows),
 }
+
+// A block of the cone list, with its number of places; of a semidefinite block, its order.
+pub enum Cone {
+    Zero(usize),
+    RPos(usize),
+    SOC(usize),
+    RotSOC(usize),
+    PSD(usize),
+}
+
+// What a cone word says.
+pub enum Word {
+    Block(Cone),
+    Bad,
+}
+
+// The most sweeps that Jacobi's method may be allowed.
+pub const SWEEPS: u64 = 64;
+
+// The parameters of a run.
+pub struct SolverParam {
+    pub max_iter: u64,
+    pub eps_acc: f64,
+    pub eps_inf: f64,
+    pub eps_zero: f64,
+    pub sweep_limit: u64,
+}

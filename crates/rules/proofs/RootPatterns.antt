@@ -6,14 +6,33 @@ use mathlib.Core.Path.{_≡_, refl, sym, ap, _∙_, subst}
 use mathlib.Core.Bool.{Bool, true, false, not, cond}
 use borrow.Author.Tests.{lt-leb, ne-eqb, lt-ltb}
 use lib.IntN.{ℤ}
-use lib.Dec.{T, leb, ltb, eqb}
+use lib.Dec.{T, leb, ltb, eqb, nltb→le}
+use lib.Arith.{le→nltb}
 use lib.Count.{trailingZeros, under}
 use lib.Pow.{pow-pos, pow-mono, pow-add, shl-lt}
-use lib.Ieee.{Float, nan, inf, fin, binary64, up, down, minus, odd, units, ofFields, ofBits}
+use lib.Ieee as Ieee
+use lib.Ieee.{Float, isNan, nanBits, toBits, fits, nan, inf, fin, binary64, up, down, minus, odd, units, ofFields, ofBits}
+use lib.Ieee.Bits.{ofBits-toBits, nanBits-is, nanBits-above}
 use lib.Ieee.Exact.{HasValue, odd-sign}
 use lib.Ieee.Fits.{down-pos}
 use Rattle.rules.specs.Root.{rootOfUnits, root}
 use Rattle.rules.proofs.Root.{NearestRoot, root-of-shifted}
+
+-- ---- which patterns are a NaN's
+
+pub no-nan-pattern : (b : ℕ) → b % 2 ^ 63 ≤ 2047 * 2 ^ 52 → T (not (nanBits binary64 b))
+no-nan-pattern b h = subst (λ (t : Bool). T (not t)) (sym (nanBits-above binary64 b)) (le→nltb (2047 * 2 ^ 52) (b % 2 ^ 63) h)
+
+pub pattern-of-no-nan : (x : Float) → T (fits binary64 x) → T (not (isNan x)) → toBits binary64 x % 2 ^ 63 ≤ 2047 * 2 ^ 52
+pattern-of-no-nan x good h =
+    let b = toBits binary64 x in
+    nltb→le (2047 * 2 ^ 52) (b % 2 ^ 63) (subst (λ (t : Bool). T (not t)) (sym (ap isNan (ofBits-toBits binary64 x good)) ∙ sym (nanBits-is binary64 b) ∙ nanBits-above binary64 b) h)
+
+pub equal-to-itself : (x : Float) → Ieee.eq x x ≡ true → T (not (isNan x))
+unfolding Ieee.eq isNan
+equal-to-itself nan e = subst T (sym e) tt
+equal-to-itself (inf s) e = tt
+equal-to-itself (fin s m d) e = tt
 
 -- ---- a pattern's value
 

@@ -1,9 +1,8 @@
 use borrow.Author.Needs.{needs}
 use native.Mathlib.Omega.{arith}
-use Prim.Native.Nat.{ℕ, _+_, _-_, _*_, _≤_, _<_}
+use Prim.Native.Nat.{ℕ, _+_, _-_, _/_, _*_, _≤_, _<_}
 use mathlib.Core.Path.{_≡_, refl, sym, ap, _∙_}
-use lib.ListN.{length, getD, set, length-set}
-use borrow.Author.Needs.{needs}
+use Rattle.rules.proofs.RootPatterns.{no-nan-pattern}
 use Rattle.float.proofs.root.guess.Statement.{statement}
 use Rattle.float.proofs.root.guess.Tie as tie
 use Rattle.float.proofs.root.guess.Reads as reads
@@ -14,7 +13,7 @@ sub-y : tie.Need-sub-y
 sub-y c = search needs
 
 float-from-bits-y : tie.Need-float-from-bits-y
-float-from-bits-y c = search needs
+float-from-bits-y c = no-nan-pattern (6910469410427058089 - c .args .b / 2) (omega arith)
 
 cut-requires : tie.Need-cut-requires
 cut-requires c κs = search needs

@@ -119,6 +119,16 @@ picked q k w = go (compare (4 * w) (middle q k)) refl
 abbrev pub NearestRoot : ℕ → ℕ → Type 0
 NearestRoot a n = (a * a < n + a) × (n ≤ a * a + a)
 
+-- the two halves of that, from the products of neighbours
+pub at-most : (a n : ℕ) → n ≤ a * (a + 1) → n ≤ a * a + a
+at-most a n h = subst (λ (x : ℕ). n ≤ x) (mul-add a a 1 ∙ ap (λ (x : ℕ). a * a + x) (mul-one a)) h
+
+pub above-last : (a n : ℕ) → a * (a + 1) < n → (a + 1) * (a + 1) < n + (a + 1)
+above-last a n h = sum ((a + 1) * (a + 1)) (a * (a + 1)) (add-mul a 1 (a + 1)) h
+  where
+    sum : (x y : ℕ) → x ≡ y + 1 * (a + 1) → y < n → x < n + (a + 1)
+    sum x y e h = omega arith
+
 one-below : (a b n : ℕ) → b < a → n ≤ b * b + b → n + a ≤ a * a
 one-below zero b n l h = absurd (not-suc-le-zero l)
 one-below (suc c) b n l h =

@@ -1,10 +1,10 @@
 -- `float::root::halved` meets its contract. Assumes nothing.
 use Prim.Native.Nat.{ℕ, _+_, _-_, _*_, _/_, _^_, _≤_, _<_}
-use native.Mathlib.Nat.{mul-add, add-mul, mul-one, one-mul}
 use native.Mathlib.Omega.{arith}
 use mathlib.Core.Path.{_≡_, refl, sym, ap, _∙_, subst}
 use borrow.Author.Needs.{needs}
 use borrow.Author.Tests.{leb-true, leb-false}
+use Rattle.rules.proofs.Root.{at-most, above-last}
 use Rattle.float.proofs.root.halved.Statement.{statement}
 use Rattle.float.proofs.root.halved.Tie as tie
 use Rattle.float.proofs.root.halved.Reads as reads
@@ -32,23 +32,12 @@ enough-requires c κs = omega arith
 loop-less : tie.Need-loop-less Inv-loop μ-loop
 loop-less c = omega arith
 
--- q was enough, so it is no less than what is looked for
-now-enough : (q n : ℕ) → n ≤ q * (q + 1) → n ≤ q * q + q
-now-enough q n h = subst (λ (x : ℕ). n ≤ x) (mul-add q q 1 ∙ ap (λ (x : ℕ). q * q + x) (mul-one q)) h
-
--- q was not, so the next number is at most that
-not-enough : (q n : ℕ) → q * (q + 1) < n → (q + 1) * (q + 1) < n + (q + 1)
-not-enough q n h = sum ((q + 1) * (q + 1)) (q * (q + 1)) (add-mul q 1 (q + 1)) h
-  where
-    sum : (x y : ℕ) → x ≡ y + 1 * (q + 1) → y < n → x < n + (q + 1)
-    sum x y e h = omega arith
-
 loop-again : tie.Need-loop-again Inv-loop μ-loop
 loop-again c =
     let loop = c .before .before .before .loop in
     let q = loop .lo + (loop .hi - loop .lo) / 2 in
     let n = c .before .before .before .before .args .m * 2 ^ 52 in
-    (omega arith, omega arith, omega arith, loop .inv .3, now-enough q n (leb-true n (q * (q + 1)) (sym (c .before .enough .ensures) ∙ c .if1 .taken)))
+    (omega arith, omega arith, omega arith, loop .inv .3, at-most q n (leb-true n (q * (q + 1)) (sym (c .before .enough .ensures) ∙ c .if1 .taken)))
 
 add-lo : tie.Need-add-lo Inv-loop μ-loop
 add-lo c = omega arith
@@ -61,7 +50,7 @@ loop-again-2 c =
     let loop = c .before .before .before .loop in
     let q = loop .lo + (loop .hi - loop .lo) / 2 in
     let n = c .before .before .before .before .args .m * 2 ^ 52 in
-    (omega arith, omega arith, omega arith, not-enough q n (leb-false n (q * (q + 1)) (sym (c .before .enough .ensures) ∙ c .if1 .left)), loop .inv .4)
+    (omega arith, omega arith, omega arith, above-last q n (leb-false n (q * (q + 1)) (sym (c .before .enough .ensures) ∙ c .if1 .left)), loop .inv .4)
 
 returns : tie.Need-returns Inv-loop μ-loop
 returns c =

@@ -1,6 +1,6 @@
 -- The root by bit patterns: what a pattern's root is in whole numbers, and which pattern the answer has.
 use Prim.Native.Nat.{ℕ, zero, suc, _+_, _-_, _*_, _/_, _%_, _^_, _≤_, _<_}
-use native.Mathlib.Nat.{le-trans, le-of-eq, lt-of-lt-of-le, lt-irrefl, mul-one, one-mul, zero-mul, mul-assoc, mul-right-comm, mul-pos, mul-div-cancel, div-lt-iff-lt-mul, pow-suc, zero-lt-suc, mul-lt-mul-of-pos-right}
+use native.Mathlib.Nat.{lt-of-not-le, not-le-of-lt, lt-of-le-of-lt, mul-le-mul-right, le-trans, le-of-eq, lt-of-lt-of-le, lt-irrefl, mul-one, one-mul, zero-mul, mul-assoc, mul-right-comm, mul-pos, mul-div-cancel, div-lt-iff-lt-mul, pow-suc, zero-lt-suc, mul-lt-mul-of-pos-right}
 use native.Mathlib.Omega.{arith}
 use mathlib.Core.Path.{_≡_, refl, sym, ap, _∙_, subst}
 use mathlib.Core.Bool.{Bool, true, false, not, cond}
@@ -169,3 +169,25 @@ even-places m e h =
     parts e h = omega arith
     below-two : (e : ℕ) → e % 2 < 2
     below-two e = omega arith
+
+-- the digits moved up by one place or none: an even number where they are 54
+pub moved : (m e : ℕ) → 2 ^ 52 ≤ m → m < 2 ^ 53 → (2 ^ 52 ≤ m * (1 + e % 2)) × (m * (1 + e % 2) + 1 < 2 ^ 54)
+moved m e lo hi = go (e % 2) (below-two e)
+  where
+    below-two : (e : ℕ) → e % 2 < 2
+    below-two e = omega arith
+    no : (r : ℕ) → suc (suc r) < 2 → ⊥
+    no r h = omega arith
+    go : (r : ℕ) → r < 2 → (2 ^ 52 ≤ m * (1 + r)) × (m * (1 + r) + 1 < 2 ^ 54)
+    go zero h = (omega arith, omega arith)
+    go (suc zero) h = (omega arith, omega arith)
+    go (suc (suc r)) h = absurd (no r h)
+
+-- how far digits of which there are at most 53 can have been moved up from the least value
+pub places-left : (b t e : ℕ) → 0 < b → t < 2 ^ 53 → t * 2 ^ e ≡ b * 2 ^ 1074 → 1022 ≤ e
+places-left b t e p h same = back e (lt-of-not-le (λ (g : 53 + e ≤ 1074). not-le-of-lt short (pow-mono g)))
+  where
+    short : 2 ^ 1074 < 2 ^ (53 + e)
+    short = lt-of-le-of-lt (le-trans (le-of-eq (sym (one-mul (2 ^ 1074)))) (mul-le-mul-right (2 ^ 1074) p)) (subst (λ (x : ℕ). x < 2 ^ (53 + e)) same (shl-lt 53 e h))
+    back : (e : ℕ) → 1074 < 53 + e → 1022 ≤ e
+    back e h = omega arith

@@ -1,16 +1,21 @@
 -- Document 01, "Port order", 6: the cone product: "blocks in list order; grouping gives each block of kinds 2, 3, 4 its smallest value."
 use Prim.Native.Nat.{ℕ, zero, suc, _+_, _*_, max}
-use mathlib.Core.Bool.{Bool, cond}
+use mathlib.Core.Path.{_≡_}
+use mathlib.Core.Bool.{Bool, true, cond, not, _&&_}
+use lib.Dec.{leb}
 use mathlib.Core.List.{List, [], _∷_, _++_}
 use lib.Ieee.{Float}
 use lib.ListN.{length, take, drop}
 use Rattle.rules.specs.declared.Cone.{Cone}
 use Rattle.rules.specs.declared.Cone.the-variants.{Zero, RPos, SOC, RotSOC, PSD}
+use Rattle.rules.specs.declared.Product.{Product}
+use Rattle.rules.specs.declared.Product.the-variants.{Done, Failed, No}
 use Rattle.rules.specs.declared.SolverParam.{SolverParam}
+use Rattle.rules.specs.Limits.{limit}
 use Rattle.rules.specs.Helpers.{smaller}
 use Rattle.rules.specs.Arithmetic.{at, each}
-use Rattle.rules.specs.Blocks.{places}
-use Rattle.rules.specs.Projections.{projBlock}
+use Rattle.rules.specs.Blocks.{places, blocksOf, isBadCone}
+use Rattle.rules.specs.Projections.{projBlock, blockWork, sweepsFit}
 
 -- which block failed, counted from 0, if one did
 pub data Failure : Type 0 where
@@ -64,16 +69,29 @@ unfolding grouped
 groupAll [] xs = xs
 groupAll (b ∷ blocks) xs = groupBlock b (take (places b) xs) ++ groupAll blocks (drop (places b) xs)
 
--- ---- cone work
+-- ---- what fits, and the complete outcome
 
 -- "Cone work: at least d + d·d for the largest semidefinite order d, 0 if there is none."
-abbrev pub blockWork : Cone → ℕ
-blockWork (Zero size) = 0
-blockWork (RPos size) = 0
-blockWork (SOC size) = 0
-blockWork (RotSOC size) = 0
-blockWork (PSD order) = order + order * order
-
 unfoldable pub coneWork : List Cone → ℕ
 coneWork [] = 0
 coneWork (b ∷ blocks) = max (blockWork b) (coneWork blocks)
+
+unfoldable pub blocksWithin : List Cone → Bool
+blocksWithin [] = true
+blocksWithin (b ∷ blocks) = leb (places b) limit && blocksWithin blocks
+
+-- a list that is no BadCone for that many places, with no block above the limit
+abbrev pub listFits : List ℕ → List Float → Bool
+listFits words x = not (isBadCone words (length x)) && blocksWithin (blocksOf words)
+
+abbrev pub productFits : SolverParam → List ℕ → List Float → List Float → Bool
+productFits par words x work = listFits words x && leb (coneWork (blocksOf words)) (length work) && sweepsFit par
+
+abbrev pub productAnswer : ℕ → Failure → Product
+productAnswer rotations none = Done rotations
+productAnswer rotations (block b) = Failed b rotations
+
+pub record ProductOutcome (fits : Bool) (ruled : Passed) (cone work : List Float) (answer : Product) (cone' work' : List Float) : Type 0 where
+  pub answered : answer ≡ cond fits (productAnswer (ruled .rotations) (ruled .failure)) No
+  pub cone-left : cone' ≡ cond fits (ruled .cone) cone
+  pub work-left : work' ≡ cond fits (ruled .work) work

@@ -1,18 +1,23 @@
 -- Document 01, "Port order", 4 and 5: the projection of each kind of block, cone_*.rs. A block of size 0 of any kind has nothing to do.
 use Prim.Native.Nat.{ℕ, zero, suc, _+_, _*_}
-use mathlib.Core.Bool.{Bool, true, false, cond}
+use mathlib.Core.Path.{_≡_}
+use mathlib.Core.Bool.{Bool, true, false, cond, _&&_}
 use mathlib.Core.List.{List, [], _∷_, _++_}
-use lib.Dec.{eqb}
+use lib.Dec.{leb, eqb}
 use lib.Ieee.{Float, binary64, lt, le, neg, add, sub, mul, div}
-use lib.ListN.{take, drop}
+use lib.ListN.{length, take, drop}
 use Rattle.rules.specs.declared.Cone.{Cone}
 use Rattle.rules.specs.declared.Cone.the-variants.{Zero, RPos, SOC, RotSOC, PSD}
+use Rattle.rules.specs.declared.Projection.{Projection}
+use Rattle.rules.specs.declared.Projection.the-variants.{Done, Failed, No}
 use Rattle.rules.specs.declared.SolverParam.{SolverParam}
+use Rattle.rules.specs.Limits.{limit, mostSweeps}
 use Rattle.rules.specs.Helpers.{larger, one, reciprocal}
 use Rattle.rules.specs.Root.{root}
 use Rattle.rules.specs.Arithmetic.{_+ᶠ_, _-ᶠ_, _*ᶠ_, _/ᶠ_, +0, each, tabulate, byColumns}
 use Rattle.rules.specs.Vectors.{norm, scaled}
 use Rattle.rules.specs.Matrices.{entry}
+use Rattle.rules.specs.Blocks.{places}
 use Rattle.rules.specs.Jacobi.{Turning, two, packed, square, inPacked, inSquare, sweeps}
 
 -- "Zero: the dual is untouched, the primal is multiplied by 0."
@@ -106,3 +111,28 @@ projBlock par dual (RPos size) x work = plain (projRPos x) work
 projBlock par dual (SOC size) x work = plain (projSOC x) work
 projBlock par dual (RotSOC size) x work = plain (projRotSOC x) work
 projBlock par dual (PSD order) x work = projPSD par order x work
+
+-- ---- what fits, and the complete outcome
+
+abbrev pub sweepsFit : SolverParam → Bool
+sweepsFit par = leb 1 (par .«sweep_limit») && leb (par .«sweep_limit») mostSweeps
+
+-- how much cone work a block needs
+abbrev pub blockWork : Cone → ℕ
+blockWork (Zero size) = 0
+blockWork (RPos size) = 0
+blockWork (SOC size) = 0
+blockWork (RotSOC size) = 0
+blockWork (PSD order) = order + order * order
+
+abbrev pub blockFits : SolverParam → Cone → List Float → List Float → Bool
+blockFits par b x work = leb (places b) limit && eqb (length x) (places b) && leb (blockWork b) (length work) && sweepsFit par
+
+abbrev pub answerOf : Projected → Projection
+answerOf p = cond (p .succeeded) (Done (p .rotations)) (Failed (p .rotations))
+
+-- It answers by the rule where the sizes fit, and no where they don't; the block and cone work hold what the rule says, place by place, or what they held before.
+pub record BlockOutcome (fits : Bool) (ruled : Projected) (block work : List Float) (answer : Projection) (block' work' : List Float) : Type 0 where
+  pub answered : answer ≡ cond fits (answerOf ruled) No
+  pub block-left : block' ≡ cond fits (ruled .block) block
+  pub work-left : work' ≡ cond fits (ruled .work) work

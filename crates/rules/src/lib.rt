@@ -42,3 +42,19 @@ pub struct SolverParam {
     pub eps_zero: f64,
     pub sweep_limit: u64,
 }
+
+// What projecting one block answers: the rotations that it took, or those after which its sweeps had
+// not ended, or a plain no.
+pub enum Projection {
+    Done(u64),
+    Failed(u64),
+    No,
+}
+
+// What projecting a list of blocks answers: the rotations that it took, or the block that failed with
+// the rotations up to there, or a plain no.
+pub enum Product {
+    Done(u64),
+    Failed(usize, u64),
+    No,
+}

@@ -1,4 +1,6 @@
 // The float helpers of document 01: each answers for every f64.
+pub mod root;
+
 ghost use mathlib.Core.Path.{_≡_};
 ghost use Rattle.rules.specs.Helpers as rules;
 

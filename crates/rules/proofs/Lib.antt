@@ -1,4 +1,6 @@
 pub mod Helpers
+pub mod Root
+pub mod RootPatterns
 pub mod Arithmetic
 pub mod Outcome
 pub mod Vectors

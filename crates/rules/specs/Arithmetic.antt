@@ -1,6 +1,6 @@
 -- Document 01, "Port order", 2: "Sums start at +0 and go by rising index; every product and sum rounds once, in the order written."
 use Prim.Native.Nat.{ℕ, zero, suc}
-use mathlib.Core.List.{List, [], _∷_}
+use mathlib.Core.List.{List, [], _∷_, _++_}
 use lib.Ieee as Ieee
 use lib.Ieee.{Float, nan, binary64, ofBits}
 use lib.ListN.{length, getD}
@@ -49,3 +49,14 @@ eachTo f (suc n) (x ∷ xs) = f 0 x ∷ eachTo (λ k v. f (suc k) v) n xs
 unfoldable pub each : (ℕ → Float → Float) → List Float → List Float
 unfolding eachTo
 each f xs = eachTo f (length xs) xs
+
+-- f 0, f 1, .. f (n - 1)
+unfoldable pub tabulate : ℕ → (ℕ → Float) → List Float
+tabulate zero f = []
+tabulate (suc n) f = f 0 ∷ tabulate n (λ k. f (suc k))
+
+-- Numbers by columns: column c has height c of them, f 0 c, f 1 c, .., and the columns 0 to n - 1 stand one after another.
+unfoldable pub byColumns : (ℕ → ℕ) → ℕ → (ℕ → ℕ → Float) → List Float
+unfolding tabulate
+byColumns height zero f = []
+byColumns height (suc n) f = byColumns height n f ++ tabulate (height n) (λ r. f r n)

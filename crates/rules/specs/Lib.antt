@@ -6,4 +6,8 @@ pub mod Root
 pub mod Arithmetic
 pub mod Vectors
 pub mod Matrices
+pub mod Blocks
+pub mod Jacobi
+pub mod Projections
+pub mod Product
 pub mod WorkedByHand

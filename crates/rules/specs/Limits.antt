@@ -4,3 +4,7 @@ use Prim.Native.Nat.{ℕ}
 -- "n, m: 0 to 256"
 abbrev pub limit : ℕ
 limit = 256
+
+-- "Sweep limit: 1 to 64"
+abbrev pub mostSweeps : ℕ
+mostSweeps = 64

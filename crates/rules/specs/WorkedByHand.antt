@@ -10,6 +10,7 @@ use Rattle.rules.specs.declared.MatType.the-variants.{General, SymPack}
 use Rattle.rules.specs.Arithmetic.{+0}
 use Rattle.rules.specs.Helpers.{larger, smaller}
 use Rattle.rules.specs.Matrices.{opped, transOpped, absaddedRows, absaddedCols}
+use Rattle.rules.specs.Projections.{projSOC}
 use Rattle.rules.specs.Root.{root}
 
 -- A row says what a term of the rules comes to.
@@ -54,6 +55,9 @@ symmetric = SymPack (record { 0 = 2 })
 abbrev pair : Float → Float → List Float
 pair a b = a ∷ b ∷ []
 
+abbrev triple : Float → Float → Float → List Float
+triple a b c = a ∷ b ∷ c ∷ []
+
 abbrev pub table : List Row
 table =
     (root binary64 (whole 4) comes-to whole 2)
@@ -66,4 +70,7 @@ table =
     ∷ (transOpped two-by-two (whole 1) dense (pair (whole 1) (whole 1)) +0 (pair +0 +0) comes-to pair (whole 3) (whole 7))
     ∷ (absaddedCols symmetric packed (pair +0 +0) comes-to pair (whole 3) (whole 5))
     ∷ (absaddedRows symmetric packed (pair +0 +0) comes-to pair (whole 3) (whole 5))
+    ∷ (projSOC (triple +0 (whole 3) (whole 4)) comes-to triple (f64 0x4004_0000_0000_0000) (f64 0x3ff8_0000_0000_0000) (whole 2))
+    ∷ (projSOC (triple (whole 5) (whole 3) (whole 4)) comes-to triple (whole 5) (whole 3) (whole 4))
+    ∷ (projSOC (triple (minus 5) (minus 3) (whole 4)) comes-to triple +0 −0 +0)
     ∷ []

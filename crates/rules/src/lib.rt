@@ -15,3 +15,46 @@ pub enum MatType {
     General(Rows, Cols),
     SymPack(Rows),
 }
+
+// A block of the cone list, with its number of places; of a semidefinite block, its order.
+pub enum Cone {
+    Zero(usize),
+    RPos(usize),
+    SOC(usize),
+    RotSOC(usize),
+    PSD(usize),
+}
+
+// What a cone word says.
+pub enum Word {
+    Block(Cone),
+    Bad,
+}
+
+// The most sweeps that Jacobi's method may be allowed.
+pub const SWEEPS: u64 = 64;
+
+// The parameters of a run.
+pub struct SolverParam {
+    pub max_iter: u64,
+    pub eps_acc: f64,
+    pub eps_inf: f64,
+    pub eps_zero: f64,
+    pub sweep_limit: u64,
+}
+
+// What projecting one block answers: the rotations that it took, or those after which its sweeps had
+// not ended, or a plain no.
+pub enum Projection {
+    Done(u64),
+    Failed(u64),
+    No,
+}
+
+// What projecting a list of blocks answers: the rotations that it took, or the block that failed with
+// the rotations up to there, or a plain no.
+pub enum Product {
+    Done(u64),
+    Failed(usize, u64),
+    No,
+}

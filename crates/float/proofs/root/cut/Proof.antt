@@ -1,0 +1,40 @@
+-- `float::root::cut` meets its contract, which asks only that the pattern is no NaN's. Assumes nothing.
+use Prim.Native.Nat.{ℕ, _-_, _*_, _%_, _^_, _≤_}
+use native.Mathlib.Omega.{arith}
+use mathlib.Core.Path.{sym, subst}
+use lib.Dec.{T}
+use lib.Ieee.{binary64, fits, toBits}
+use Rattle.rules.proofs.RootPatterns.{no-nan-pattern, pattern-of-no-nan, equal-to-itself}
+use borrow.Author.Needs.{needs}
+use Rattle.float.proofs.root.cut.Statement.{statement}
+use Rattle.float.proofs.root.cut.Tie as tie
+use Rattle.float.proofs.root.cut.Reads as reads
+use Rattle.float.proofs.root.cut.Lts as lts
+
+float-to-bits-b : tie.Need-float-to-bits-b
+float-to-bits-b c = equal-to-itself (c .before .args .s) (c .if1 .taken)
+
+sub-result : tie.Need-sub-result
+sub-result c = omega arith
+
+-- that the format holds s
+held : (c : tie.Start) → T (fits binary64 (c .args .s))
+held c = subst T (sym (c .good .0 .1)) tt
+
+cut-pattern : (b : ℕ) → b % 2 ^ 63 ≤ 2047 * 2 ^ 52 → (b - b % 134217728) % 2 ^ 63 ≤ 2047 * 2 ^ 52
+cut-pattern b h = omega arith
+
+float-from-bits-result : tie.Need-float-from-bits-result
+float-from-bits-result c =
+    let s = c .before .args .s in
+    let b = toBits binary64 s in
+    no-nan-pattern (b - b % 134217728) (cut-pattern b (pattern-of-no-nan s (held (c .before)) (equal-to-itself s (c .if1 .taken))))
+
+returns : tie.Need-returns
+returns c = search needs
+
+returns-2 : tie.Need-returns-2
+returns-2 c = search needs
+
+pub cut-spec : {M : Type 1} → statement M
+cut-spec = tie.close (tie.spec float-to-bits-b sub-result float-from-bits-result returns returns-2)

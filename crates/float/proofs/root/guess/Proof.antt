@@ -1,0 +1,25 @@
+use borrow.Author.Needs.{needs}
+use native.Mathlib.Omega.{arith}
+use Prim.Native.Nat.{ℕ, _+_, _-_, _/_, _*_, _≤_, _<_}
+use mathlib.Core.Path.{_≡_, refl, sym, ap, _∙_}
+use Rattle.rules.proofs.RootPatterns.{no-nan-pattern}
+use Rattle.float.proofs.root.guess.Statement.{statement}
+use Rattle.float.proofs.root.guess.Tie as tie
+use Rattle.float.proofs.root.guess.Reads as reads
+use Rattle.float.proofs.root.guess.Lts as lts
+use Rattle.float.proofs.root.cut.Reads as cut-reads
+
+sub-y : tie.Need-sub-y
+sub-y c = search needs
+
+float-from-bits-y : tie.Need-float-from-bits-y
+float-from-bits-y c = no-nan-pattern (6910469410427058089 - c .args .b / 2) (omega arith)
+
+cut-requires : tie.Need-cut-requires
+cut-requires c κs = search needs
+
+returns : tie.Need-returns
+returns c = search needs
+
+pub guess-spec : {M : Type 1} → statement M
+guess-spec = tie.close (tie.spec sub-y float-from-bits-y cut-requires returns)

@@ -1,0 +1,149 @@
+// The root, correctly rounded to nearest. Float arithmetic only guesses the answer; whole numbers say whether the guess is right, and
+// a search by halving finds the answer where it is not. Of a number above zero the root has the digits q, of which there are 53, and
+// the pattern k * 2^52 + q, where the number is m * 2^52 * 4^k squares of the least value. q is nearest where
+// (q - 1) * q < m * 2^52 <= q * (q + 1).
+ghost use mathlib.Core.Path.{_≡_};
+ghost use mathlib.Core.Bool.{true};
+ghost use Prim.Native.Nat.{_+_, _*_, _^_, _≤_, _<_};
+ghost use lib.Dec.{leb};
+ghost use lib.Ieee.{binary64, ofBits};
+ghost use Rattle.rules.specs.Root as rules;
+ghost use Rattle.float.specs.Root.{Digits, Halved};
+
+// The root: a zero keeps its sign, and below zero the answer is NaN.
+pub fn root(x: f64) -> f64
+    ensures { λ r. ⌜ r ≡ rules.root binary64 x ⌝ }
+{
+    if x > 0.0 {
+        let b = f64::to_bits(x);
+        if b < 4503599627370496 {
+            root_of_low(b)
+        } else {
+            if b < 9218868437227405312 {
+                root_of_normal(x, b)
+            } else {
+                x
+            }
+        }
+    } else {
+        if x < 0.0 { 0.0 / 0.0 } else { x }
+    }
+}
+
+// The root of a normal number, by its pattern b. What is returned does not turn on x, by which the guess is made.
+fn root_of_normal(x: f64, b: u64) -> f64
+    requires { ⌜ (2 ^ 52 ≤ b) × (b < 2047 * 2 ^ 52) ⌝ }
+    ensures { λ r. ⌜ r ≡ rules.root binary64 (ofBits binary64 b) ⌝ }
+{
+    let places = b / 4503599627370496 + 1073;
+    let k = places / 2 - 26;
+    let m = (4503599627370496 + b % 4503599627370496) * (1 + places % 2);
+    let g = guess(x, b);
+    if is_root(g, m, k) {
+        g
+    } else {
+        root_by_halving(m, k)
+    }
+}
+
+// The root of a number below the least normal one: its digits are first moved up to where a normal number has them.
+fn root_of_low(b: u64) -> f64
+    requires { ⌜ (0 < b) × (b < 2 ^ 52) ⌝ }
+    ensures { λ r. ⌜ r ≡ rules.root binary64 (ofBits binary64 b) ⌝ }
+{
+    let mut t = b;
+    let mut places: u64 = 1074;
+    while t < 4503599627370496 {
+        t = t * 2;
+        places = places - 1;
+    }
+    root_by_halving(t * (1 + places % 2), places / 2 - 26)
+}
+
+// A guess at the root: 1/√x to 3.5 % from the pattern, a polynomial that makes it s, right to 39 digits or so, and one step by the
+// exact error of s. For that s is cut to c, whose square is exact, and x - s * s is x - c * c - 2 * c * u - u * u.
+fn guess(x: f64, b: u64) -> f64
+    requires { ⌜ b < 2047 * 2 ^ 52 ⌝ }
+{
+    let y = f64::from_bits(6910469410427058089 - b / 2);
+    let t = x * y;
+    let r = 1.0 - t * y;
+    let rr = r * r;
+    let low = (0.5000000000017186 + r * 0.3750000022047503)
+        + rr * (0.3124999932718242 + r * 0.2734337276310497);
+    let high = (0.24609646123592888 + r * 0.22719872423730225) + rr * 0.20992340033545645;
+    let f = 1.0 + r * (low + (rr * rr) * high);
+    let s = t * f;
+    let c = cut(s);
+    let u = s - c;
+    c + ((x - c * c) + u * u) * (0.5 * y * f)
+}
+
+// The 26 leading digits.
+fn cut(s: f64) -> f64 {
+    if s == s {
+        let b = f64::to_bits(s);
+        f64::from_bits(b - b % 134217728)
+    } else {
+        s
+    }
+}
+
+// Whether g is the root.
+fn is_root(g: f64, m: u64, k: u64) -> bool
+    requires { ⌜ Digits m k ⌝ }
+    ensures { λ r. ⌜ (r ≡ true → g ≡ rules.rootOfUnits binary64 (m * 2 ^ 52 * (2 ^ k * 2 ^ k))) ⌝ }
+{
+    if g == g {
+        let b = f64::to_bits(g);
+        if b / 4503599627370496 == k + 1 {
+            let q = b % 4503599627370496 + 4503599627370496;
+            if enough(q, m) {
+                !enough(q - 1, m)
+            } else {
+                false
+            }
+        } else {
+            false
+        }
+    } else {
+        false
+    }
+}
+
+// The root, whatever it takes.
+fn root_by_halving(m: u64, k: u64) -> f64
+    requires { ⌜ Digits m k ⌝ }
+    ensures { λ r. ⌜ r ≡ rules.rootOfUnits binary64 (m * 2 ^ 52 * (2 ^ k * 2 ^ k)) ⌝ }
+{
+    f64::from_bits(k * 4503599627370496 + halved(m))
+}
+
+// The least q of 53 digits that is enough.
+fn halved(m: u64) -> u64
+    requires { ⌜ (2 ^ 52 ≤ m) × (m + 1 < 2 ^ 54) ⌝ }
+    ensures { λ r. ⌜ Halved m r ⌝ }
+{
+    let mut lo: u64 = 4503599627370496;
+    let mut hi: u64 = 9007199254740991;
+    while lo < hi {
+        let q = lo + (hi - lo) / 2;
+        if enough(q, m) {
+            hi = q;
+        } else {
+            lo = q + 1;
+        }
+    }
+    lo
+}
+
+// Whether q * (q + 1) is at least m * 2^52. The product is too wide, but cut at 52 digits it is not: with q = h * 2^27 + l it is
+// h * h * 2^54 + (2 * h * l + h) * 2^27 + l * l + l.
+fn enough(q: u64, m: u64) -> bool
+    requires { ⌜ q < 2 ^ 53 ⌝ }
+    ensures { λ r. ⌜ r ≡ leb (m * 2 ^ 52) (q * (q + 1)) ⌝ }
+{
+    let h = q / 134217728;
+    let l = q % 134217728;
+    m <= 4 * (h * h) + (2 * (h * l) + h + (l * l + l) / 134217728) / 33554432
+}

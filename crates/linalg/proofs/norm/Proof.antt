@@ -3,8 +3,10 @@ use Prim.Native.Nat.{_-_, _≤_}
 use mathlib.Core.Path.{_≡_, refl, _∙_, ap}
 use lib.ListN.{length}
 use Rattle.rules.specs.Arithmetic.{_*ᶠ_, +0, at}
+use lib.Ieee.{binary64}
+use Rattle.rules.specs.Root.{root}
 use Rattle.rules.specs.Vectors.{norm}
-use Rattle.rules.proofs.Arithmetic.{Summed, summed-none, summed-more}
+use Rattle.rules.proofs.Arithmetic.{Summed, summed-none, summed-more, summed-all}
 use borrow.Author.Needs.{needs}
 use Rattle.linalg.proofs.norm.Statement.{statement}
 use Rattle.linalg.proofs.norm.Tie as tie
@@ -39,11 +41,12 @@ loop-less c = search needs
 loop-again : tie.Need-loop-again Inv-loop μ-loop
 loop-again c = (summed-more (c .before .before .before .loop .inv .0), search needs, search needs)
 
-reciprocal-requires : tie.Need-reciprocal-requires Inv-loop μ-loop
-reciprocal-requires c κs = search needs
+root-requires : tie.Need-root-requires Inv-loop μ-loop
+root-requires c κs = search needs
 
 returns : tie.Need-returns Inv-loop μ-loop
-returns c = ?
+unfolding norm
+returns c = c .root .ensures ∙ ap (root binary64) (summed-all {m = length (c .before .before .before .before .args .x .now)} (c .before .before .loop .inv .0) (search needs))
 
 pub norm-spec : {M : Type 1} → statement M
 norm-spec =
@@ -59,5 +62,5 @@ norm-spec =
     add-i
     loop-less
     loop-again
-    reciprocal-requires
+    root-requires
     returns)

@@ -120,6 +120,19 @@ fn row_product(transpose: bool, t: MatType, mat: &[f64], x: &[f64], r: usize) ->
     mat_x
 }
 
+// Whether the matrix is stored, and x and y have the lengths that its sizes say.
+pub fn transform_fits(transpose: bool, t: MatType, mat: &[f64], x: &[f64], y: &[f64]) -> bool
+    ensures { λ r. ⌜ r ≡ transformFits transpose t (now (mat .entry)) (now (x .entry)) (now (y .entry)) ⌝ }
+{
+    if !stored_fits(t, mat) {
+        return false;
+    }
+    if x.len() != width(transpose, t) {
+        return false;
+    }
+    y.len() == height(transpose, t)
+}
+
 // y becomes alpha * matrix * x + beta * y.
 fn transform(
     transpose: bool,
@@ -132,13 +145,7 @@ fn transform(
 ) -> bool
     ensures { λ r. ⌜ Outcome (transformFits transpose t (now (mat .entry)) (now (x .entry)) (now (y .entry))) (transformed alpha (entries transpose t (now (mat .entry))) (now (x .entry)) beta (now (y .entry))) (now (y .entry)) r (now (y .exit)) ⌝ }
 {
-    if !stored_fits(t, mat) {
-        return false;
-    }
-    if x.len() != width(transpose, t) {
-        return false;
-    }
-    if y.len() != height(transpose, t) {
+    if !transform_fits(transpose, t, mat, x, y) {
         return false;
     }
     for r in 0..y.len() {

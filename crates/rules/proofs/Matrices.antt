@@ -16,7 +16,7 @@ use Rattle.rules.specs.declared.MatType.the-variants.{General, SymPack}
 use Rattle.rules.specs.declared.Rows.{Rows}
 use Rattle.rules.specs.Limits.{limit}
 use Rattle.rules.specs.Arithmetic.{at}
-use Rattle.rules.specs.Matrices.{nRow, nCol, triangle, storedLength, place, entry, storedFits, Stored}
+use Rattle.rules.specs.Matrices.{nRow, nCol, triangle, storedLength, place, entry, width, height, storedFits, Stored, transformFits}
 
 -- ---- the packed triangle
 
@@ -82,6 +82,18 @@ stored-if-fits {t} {mat} e =
 
 pub fits-if-stored : {t : MatType} {mat : List Float} → Stored t mat → storedFits t mat ≡ true
 fits-if-stored {t} {mat} s = rw (le-leb (nRow t) limit (s .rows), le-leb (nCol t) limit (s .cols)) (eq-eqb (length mat) (storedLength t) (s .all))
+
+pub record Fitting (transpose : Bool) (t : MatType) (mat x y : List Float) : Type 0 where
+  pub fits : transformFits transpose t mat x y ≡ true
+  pub stored : Stored t mat
+  pub wide : length x ≡ width transpose t
+  pub high : length y ≡ height transpose t
+
+pub fitting : {transpose : Bool} {t : MatType} {mat x y : List Float} → transformFits transpose t mat x y ≡ true → Fitting transpose t mat x y
+fitting {transpose} {t} {mat} {x} {y} e =
+    let p = both-true (storedFits t mat && eqb (length x) (width transpose t)) (eqb (length y) (height transpose t)) e in
+    let q = both-true (storedFits t mat) (eqb (length x) (width transpose t)) (p .0) in
+    record { fits = e; stored = stored-if-fits (q .0); wide = eqb-true (length x) (width transpose t) (q .1); high = eqb-true (length y) (height transpose t) (p .1) }
 
 -- sizes within the limits can be multiplied
 pub product-small : (a b : ℕ) → a ≤ limit → b ≤ limit + 1 → a * b ≤ 65792

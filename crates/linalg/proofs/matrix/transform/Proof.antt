@@ -3,48 +3,36 @@ use Prim.Native.Nat.{_-_}
 use mathlib.Core.Path.{_≡_, refl, sym, _∙_}
 use lib.ListN.{length}
 use borrow.Author.Needs.{needs}
-use borrow.Author.Tests.{eq-eqb, ne-eqb, not-true, not-false}
+use borrow.Author.Tests.{not-true, not-false}
 use Rattle.rules.specs.Arithmetic.{_+ᶠ_, _*ᶠ_}
-use Rattle.rules.specs.Matrices.{Stored, entries, width, height, product, transformed}
+use Rattle.rules.specs.Matrices.{entries, product, transformed}
 use Rattle.rules.proofs.Arithmetic.{Reached, reached-none, reached-more, reached-all}
-use Rattle.rules.proofs.Matrices.{stored-if-fits, fits-if-stored}
+use Rattle.rules.proofs.Matrices.{Fitting, fitting}
 use Rattle.rules.proofs.Outcome.{refused, done}
 use Rattle.linalg.proofs.matrix.transform.Statement.{statement}
 use Rattle.linalg.proofs.matrix.transform.Tie as tie
 
 abbrev Inv-loop : tie.InvT-loop
-Inv-loop transpose t alpha mat x beta y₀ r₀ r-end y r = Reached (λ k v. alpha *ᶠ product (entries transpose t mat) x k +ᶠ beta *ᶠ v) r y₀ y × Stored t mat × (length x ≡ width transpose t) × (length y₀ ≡ height transpose t) × (r-end ≡ length y₀)
+Inv-loop transpose t alpha mat x beta y₀ r₀ r-end y r = Reached (λ k v. alpha *ᶠ product (entries transpose t mat) x k +ᶠ beta *ᶠ v) r y₀ y × Fitting transpose t mat x y₀ × (r-end ≡ length y₀)
 
 abbrev μ-loop : tie.MeasureT-loop
 μ-loop transpose t alpha mat x beta y₀ r₀ r-end y r = length y₀ - r
 
-stored-fits-requires : tie.Need-stored-fits-requires Inv-loop μ-loop
-stored-fits-requires c κs = search needs
+transform-fits-requires : tie.Need-transform-fits-requires Inv-loop μ-loop
+transform-fits-requires c κs = search needs
+
+same-length : tie.Need-same-length Inv-loop μ-loop
+same-length c = search needs
 
 returns : tie.Need-returns Inv-loop μ-loop
-returns c = refused (rw (sym (c .before .stored-fits .ensures) ∙ not-true _ (c .if1 .taken)))
-
-width-requires : tie.Need-width-requires Inv-loop μ-loop
-width-requires c κs = search needs
-
-returns-2 : tie.Need-returns-2 Inv-loop μ-loop
-returns-2 c = refused (rw (sym (c .before .before .before .stored-fits .ensures) ∙ not-false _ (c .before .before .if1 .left), ne-eqb _ _ (rw (c .before .width .ensures) at (c .if2 .taken))))
-
-height-requires : tie.Need-height-requires Inv-loop μ-loop
-height-requires c κs = search needs
-
-returns-3 : tie.Need-returns-3 Inv-loop μ-loop
-returns-3 c = let stored = sym (c .before .before .before .before .before .stored-fits .ensures) ∙ not-false _ (c .before .before .before .before .if1 .left) in
-    let x = rw (c .before .before .before .width .ensures) at (c .before .before .if2 .left) in
-    refused (rw (stored, eq-eqb _ _ x, ne-eqb _ _ (rw (c .before .height .ensures) at (c .if3 .taken))))
+returns c = refused (sym (c .before .transform-fits .ensures) ∙ not-true _ (c .if1 .taken))
 
 loop-holds : tie.Need-loop-holds Inv-loop μ-loop
-loop-holds c = let stored = sym (c .before .before .before .before .before .stored-fits .ensures) ∙ not-false _ (c .before .before .before .before .if1 .left) in
-    (reached-none _ _, stored-if-fits stored, search needs, search needs, refl)
+loop-holds c = (reached-none _ _, fitting (sym (c .before .transform-fits .ensures) ∙ not-false _ (c .if1 .left)), refl)
 
 row-product-requires : tie.Need-row-product-requires Inv-loop μ-loop
 row-product-requires c κs = let i = c .before .loop .inv in
-    (i .1, (i .2, search needs))
+    (i .1 .stored, (i .1 .wide, search needs))
 
 mul-y : tie.Need-mul-y Inv-loop μ-loop
 mul-y c = search needs
@@ -65,15 +53,15 @@ loop-less : tie.Need-loop-less Inv-loop μ-loop
 loop-less c = search needs
 
 loop-again : tie.Need-loop-again Inv-loop μ-loop
-loop-again c = (rw (c .before .row-product .ensures) (reached-more (c .before .before .before .loop .inv .0) (search needs)), search needs, search needs, search needs, search needs)
+loop-again c = (rw (c .before .row-product .ensures) (reached-more (c .before .before .before .loop .inv .0) (search needs)), search needs, search needs)
 
-same-length : tie.Need-same-length Inv-loop μ-loop
-same-length c = search needs
+same-length-2 : tie.Need-same-length-2 Inv-loop μ-loop
+same-length-2 c = search needs
 
-returns-4 : tie.Need-returns-4 Inv-loop μ-loop
+returns-2 : tie.Need-returns-2 Inv-loop μ-loop
 unfolding transformed
-returns-4 c = let i = c .before .loop .inv in
-    done (rw (fits-if-stored (i .1), eq-eqb _ _ (i .2), eq-eqb _ _ (i .3))) (reached-all (i .0) (search needs))
+returns-2 c = let i = c .before .loop .inv in
+    done (i .1 .fits) (reached-all (i .0) (search needs))
 
 pub transform-spec : {M : Type 1} → statement M
 transform-spec =
@@ -81,12 +69,9 @@ transform-spec =
     (tie.spec
     Inv-loop
     μ-loop
-    stored-fits-requires
+    transform-fits-requires
+    same-length
     returns
-    width-requires
-    returns-2
-    height-requires
-    returns-3
     loop-holds
     row-product-requires
     mul-y
@@ -96,5 +81,5 @@ transform-spec =
     add-r
     loop-less
     loop-again
-    same-length
-    returns-4)
+    same-length-2
+    returns-2)

@@ -1,6 +1,7 @@
 // The operators of matop.rs: a matrix of either kind, with its sizes.
-use rules::{Cols, MatType, Rows};
-
+use rules::Cols;
+use rules::MatType;
+use rules::Rows;
 ghost use Prim.Native.Nat.{_+_, _≤_, _<_};
 ghost use mathlib.Core.Path.{_≡_};
 ghost use lib.ListN.{length};
@@ -27,14 +28,35 @@ pub fn trans_op(t: MatType, alpha: f64, mat: &[f64], x: &[f64], beta: f64, y: &m
 }
 
 // What op and trans_op share.
-fn operate(transpose: bool, t: MatType, alpha: f64, mat: &[f64], x: &[f64], beta: f64, y: &mut [f64]) -> bool
+fn operate(
+    transpose: bool,
+    t: MatType,
+    alpha: f64,
+    mat: &[f64],
+    x: &[f64],
+    beta: f64,
+    y: &mut [f64],
+) -> bool
     ensures { λ r. ⌜ Outcome (transformFits transpose t (now (mat .entry)) (now (x .entry)) (now (y .entry))) (operated transpose t alpha (now (mat .entry)) (now (x .entry)) beta (now (y .entry))) (now (y .entry)) r (now (y .exit)) ⌝ }
 {
     if is_empty(t) {
-        return scale_if_fits(transpose, t, mat, x, beta, y);
+        if !linalg::matrix::transform_fits(transpose, t, mat, x, y) {
+            return false;
+        }
+        linalg::scale(beta, y);
+        return true;
     }
     match t {
-        MatType::General(rows, cols) => linalg::matrix::transform_ge(transpose, rows, cols, alpha, mat, x, beta, y),
+        MatType::General(rows, cols) => linalg::matrix::transform_ge(
+            transpose,
+            rows,
+            cols,
+            alpha,
+            mat,
+            x,
+            beta,
+            y,
+        ),
         MatType::SymPack(rows) => linalg::matrix::transform_sp(rows, alpha, mat, x, beta, y),
     }
 }
@@ -47,21 +69,4 @@ fn is_empty(t: MatType) -> bool
         return true;
     }
     linalg::matrix::n_col(t) == 0
-}
-
-// An empty matrix only scales y.
-fn scale_if_fits(transpose: bool, t: MatType, mat: &[f64], x: &[f64], beta: f64, y: &mut [f64]) -> bool
-    ensures { λ r. ⌜ Outcome (transformFits transpose t (now (mat .entry)) (now (x .entry)) (now (y .entry))) (scaled beta (now (y .entry))) (now (y .entry)) r (now (y .exit)) ⌝ }
-{
-    if !linalg::matrix::stored_fits(t, mat) {
-        return false;
-    }
-    if x.len() != linalg::matrix::width(transpose, t) {
-        return false;
-    }
-    if y.len() != linalg::matrix::height(transpose, t) {
-        return false;
-    }
-    linalg::scale(beta, y);
-    true
 }

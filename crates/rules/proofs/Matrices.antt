@@ -15,8 +15,9 @@ use Rattle.rules.specs.declared.MatType.{MatType}
 use Rattle.rules.specs.declared.MatType.the-variants.{General, SymPack}
 use Rattle.rules.specs.declared.Rows.{Rows}
 use Rattle.rules.specs.Limits.{limit}
-use Rattle.rules.specs.Arithmetic.{at}
-use Rattle.rules.specs.Matrices.{nRow, nCol, triangle, storedLength, place, entry, width, height, storedFits, Stored, transformFits}
+use Rattle.rules.specs.Arithmetic.{_+ᶠ_, _*ᶠ_, +0, at, sumFrom}
+use Rattle.rules.specs.Matrices.{nRow, nCol, triangle, storedLength, place, entry, entries, product, transformed, width, height, storedFits, Stored, transformFits}
+use Rattle.rules.proofs.Arithmetic.{sum-same, each-same}
 
 -- ---- the packed triangle
 
@@ -67,6 +68,22 @@ place-mirrored rows r c = go (ltb r c) (ltb c r) refl refl
     go false false p q =
         let e : r ≡ c = omega (arith, ltb-false r c p, ltb-false c r q) in
         rw e
+
+-- ---- a packed matrix turned over is the same
+
+pub packed-turned : (transpose : Bool) (rows : Rows) (mat : List Float) (r c : ℕ) → entries transpose (SymPack rows) mat r c ≡ entry (SymPack rows) mat r c
+unfolding entry
+packed-turned true rows mat r c = ap (at mat) (place-mirrored rows r c)
+packed-turned false rows mat r c = refl
+
+pub packed-fits : (transpose : Bool) (rows : Rows) (mat x y : List Float) → transformFits transpose (SymPack rows) mat x y ≡ transformFits false (SymPack rows) mat x y
+packed-fits true rows mat x y = refl
+packed-fits false rows mat x y = refl
+
+pub transformed-same : (alpha : Float) (e f : ℕ → ℕ → Float) (x : List Float) (beta : Float) (y : List Float) → ((r c : ℕ) → e r c ≡ f r c) → transformed alpha e x beta y ≡ transformed alpha f x beta y
+unfolding transformed
+transformed-same alpha e f x beta y h =
+    each-same (λ r v. alpha *ᶠ product e x r +ᶠ beta *ᶠ v) (λ r v. alpha *ᶠ product f x r +ᶠ beta *ᶠ v) y (λ r l. rw (sum-same +0 (λ c. e r c *ᶠ at x c) (λ c. f r c *ᶠ at x c) (length x) (λ c k. rw (h r c))))
 
 -- ---- what the tests of sizes say
 

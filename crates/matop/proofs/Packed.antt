@@ -90,7 +90,9 @@ module _ (rows : Rows) (mat : List Float) where
           let held : at ys i ≡ packedTo rows mat c i (at xs i) = ap (λ (ws : List Float). at ws i) (r .is) ∙ each-at (packedTo rows mat c) xs i l in
           ap (λ (ws : List Float). at ws i) e ∙ each-at (columnAdded mat c) ys i (omega (arith, r .same)) ∙ rw held (go i (at xs i) (ltb i c) (eqb i c) refl refl)
 
-  pub columns-all : {xs ys : List Float} → Columns rows mat (rows .0) xs ys → length xs ≡ rows .0 → ys ≡ absaddedCols (SymPack rows) mat xs
+  pub columns-all : {c : ℕ} {xs ys : List Float} → Columns rows mat c xs ys → c ≡ rows .0 → length xs ≡ rows .0 → ys ≡ absaddedCols (SymPack rows) mat xs
   unfolding packedTo absaddedCols
-  columns-all {xs} {ys} r e =
-      r .is ∙ each-same (packedTo rows mat (rows .0)) (λ i v. packedSum (entry (SymPack rows) mat) (rows .0) i v) xs (λ i l. rw (lt-ltb i (rows .0) (omega arith)))
+  columns-all {c} {xs} {ys} r all e =
+      r .is
+      ∙ each-same (packedTo rows mat c) (λ i v. packedSum (entry (SymPack rows) mat) (rows .0) i v) xs
+      (λ i l. rw (all, lt-ltb i (rows .0) (omega arith)))

@@ -1,11 +1,10 @@
 -- Laws of the packed absolute sums, column by column.
-use Prim.Native.Nat.{ℕ, zero, suc, _+_, _-_, _<_, _≤_}
-use native.Mathlib.Numerals.{add-one}
+use Prim.Native.Nat.{ℕ, suc, _+_, _-_, _<_}
 use native.Mathlib.Omega.{arith}
 use mathlib.Core.Path.{_≡_, refl, sym, ap, _∙_}
 use mathlib.Core.Bool.{Bool, true, false, cond}
 use mathlib.Core.List.{List}
-use borrow.Author.Tests.{ltb-true, ltb-false, eqb-true, eqb-false, lt-ltb, le-ltb, eq-eqb}
+use borrow.Author.Tests.{ltb-true, ltb-false, eqb-true, eqb-false, lt-ltb, le-ltb}
 use lib.Dec.{ltb, eqb}
 use lib.Ieee.{Float, nan}
 use lib.ListN.{length, set, length-set}
@@ -13,7 +12,7 @@ use lib.Seq.{getD-set-same, getD-set-other}
 use Rattle.rules.specs.declared.MatType.the-variants.{SymPack}
 use Rattle.rules.specs.declared.Rows.{Rows}
 use Rattle.rules.specs.Helpers.{magnitude}
-use Rattle.rules.specs.Arithmetic.{_+ᶠ_, +0, at, sumTo, sumFrom, each, eachTo}
+use Rattle.rules.specs.Arithmetic.{_+ᶠ_, +0, at, sumTo, each, eachTo}
 use Rattle.rules.specs.Matrices.{triangle, entry, colSum, packedSum, absaddedCols}
 use Rattle.rules.proofs.Arithmetic.{sum-none, sum-turn, sum-same, eachTo-length, eachTo-later, eachTo-at, each-length, each-at, each-is, each-same}
 use Rattle.rules.proofs.Matrices.{packed-entry}

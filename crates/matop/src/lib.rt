@@ -7,7 +7,6 @@ ghost use mathlib.Core.Path.{_≡_};
 ghost use lib.ListN.{length};
 ghost use Rattle.rules.specs.Outcome.{Outcome};
 ghost use Rattle.rules.specs.Arithmetic.{each};
-ghost use Rattle.rules.specs.Vectors.{scaled};
 ghost use Rattle.rules.specs.Matrices.{triangle, entries, width, height, isEmpty, colSum, Stored, transformFits, opFits, transOpFits, opped, transOpped, colsFit, rowsFit, absaddedCols, absaddedRows};
 ghost use Rattle.rules.specs.declared.MatType.the-variants.{General, SymPack};
 ghost use Rattle.matop.specs.Columns.{operated, absadded, absaddFits, columnAdded};

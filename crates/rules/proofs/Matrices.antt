@@ -1,13 +1,11 @@
 -- Laws of the matrix rules: where entries are stored, and what the tests of sizes say.
-use Prim.Native.Nat.{ℕ, zero, suc, _+_, _-_, _*_, _/_, _<_, _≤_}
-use native.Mathlib.Numerals.{add-one}
+use Prim.Native.Nat.{ℕ, zero, suc, _+_, _-_, _*_, _<_, _≤_}
 use native.Mathlib.Nat.{mul-comm, mul-add, add-mul, suc-mul, mul-le-mul, mul-le-mul-left, mul-le-mul-right, mul-zero, mul-suc}
 use native.Mathlib.Omega.{arith}
 use mathlib.Core.Path.{_≡_, refl, sym, ap, _∙_}
-use mathlib.Core.Bool.{Bool, true, false, cond, _&&_, true≢false, false≢true}
+use mathlib.Core.Bool.{Bool, true, false, cond, _&&_, false≢true}
 use mathlib.Core.List.{List}
-use mathlib.Core.Logic.{⊎-elim}
-use borrow.Author.Tests.{ltb-true, ltb-false, leb-true, eqb-true, lt-ltb, le-ltb, le-leb, eq-eqb}
+use borrow.Author.Tests.{ltb-true, ltb-false, leb-true, eqb-true, le-leb, eq-eqb}
 use lib.Dec.{ltb, leb, eqb}
 use lib.Ieee.{Float}
 use lib.ListN.{length, take, drop}
@@ -18,7 +16,7 @@ use Rattle.rules.specs.declared.Cols.{Cols}
 use Rattle.rules.specs.Helpers.{magnitude}
 use Rattle.rules.specs.Vectors.{abssum}
 use Rattle.rules.specs.Limits.{limit}
-use Rattle.rules.specs.Arithmetic.{_+ᶠ_, _*ᶠ_, +0, at, sumFrom}
+use Rattle.rules.specs.Arithmetic.{_+ᶠ_, _*ᶠ_, +0, at}
 use Rattle.rules.specs.Matrices.{nRow, nCol, triangle, storedLength, place, entry, entries, flipped, colSum, product, transformed, width, height, storedFits, Stored, transformFits}
 use Rattle.rules.proofs.Arithmetic.{sum-none, sum-same, each-same}
 use Rattle.rules.proofs.Vectors.{abssum-of-part, abssum-of-rest}

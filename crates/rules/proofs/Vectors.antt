@@ -1,16 +1,15 @@
 -- Laws of the vector routines' rules: how many places a step reaches, and what the absolute sum is then.
-use Prim.Native.Nat.{ℕ, zero, suc, _+_, _-_, _*_, _/_, _<_, _≤_}
+use Prim.Native.Nat.{ℕ, suc, _+_, _-_, _*_, _/_, _<_, _≤_}
 use native.Mathlib.Nat.{add-comm, add-mul, mul-one, mul-comm, mul-le-mul-left, add-div-right, div-eq-of-lt, div-eq-of-lt-le, le-div-iff-mul-le}
 use native.Mathlib.Omega.{arith}
-use mathlib.Core.Path.{_≡_, refl, sym, ap, _∙_}
-use mathlib.Core.Bool.{Bool, cond}
+use mathlib.Core.Path.{_≡_, sym, ap, _∙_}
 use mathlib.Core.List.{List}
 use borrow.Author.Tests.{eq-eqb, ne-eqb}
 use lib.Ieee.{Float}
 use lib.ListN.{length, take, drop, length-take, length-drop}
 use lib.Seq.{take-length, getD-take, getD-drop}
 use Rattle.rules.specs.Helpers.{magnitude}
-use Rattle.rules.specs.Arithmetic.{+0, at, sumTo, sumFrom}
+use Rattle.rules.specs.Arithmetic.{+0, at, sumTo}
 use Rattle.rules.specs.Vectors.{strides, abssum}
 use Rattle.rules.proofs.Arithmetic.{sum-none, sum-same, Summed}
 

@@ -1,7 +1,6 @@
 -- `matop::add_column` meets its contract.
 use Prim.Native.Nat.{_+_, _-_, _≤_, _<_, suc}
-use native.Mathlib.Omega.{arith}
-use mathlib.Core.Path.{_≡_, refl, sym, _∙_}
+use mathlib.Core.Path.{_≡_, _∙_}
 use lib.ListN.{length, length-set}
 use borrow.Author.Needs.{needs}
 use Rattle.rules.specs.Helpers.{magnitude}

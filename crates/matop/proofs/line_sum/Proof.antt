@@ -1,8 +1,7 @@
 -- `matop::line_sum` meets its contract: the line asked for is stored.
 use Prim.Native.Nat.{_+_, _*_, _<_, _≤_}
-use native.Mathlib.Nat.{add-sub-cancel-left}
 use native.Mathlib.Omega.{arith}
-use mathlib.Core.Path.{_≡_, refl, sym, ap, _∙_}
+use mathlib.Core.Path.{_∙_}
 use lib.ListN.{length}
 use borrow.Author.Needs.{needs}
 use Rattle.rules.proofs.Matrices.{column-inside, row-inside, column-sum, row-sum, row-sum-none}

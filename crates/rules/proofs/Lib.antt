@@ -1,3 +1,4 @@
 pub mod Root
+pub mod RootNearest
 pub mod RootPatterns
 pub mod WorkedByHand

@@ -126,12 +126,12 @@ fn halved(m: u64) -> u64
 }
 
 // Whether q * (q + 1) is at least m * 2^52. The product is too wide, but cut at 52 digits it is not: with q = h * 2^27 + l it is
-// h * h * 2^54 + (2 * h * l + h) * 2^27 + l * l + l.
+// h * h * 2^54 + h * (2 * l + 1) * 2^27 + l * (l + 1).
 fn enough(q: u64, m: u64) -> bool
     requires { ⌜ q < 2 ^ 53 ⌝ }
     ensures { λ r. ⌜ r ≡ leb (m * 2 ^ 52) (q * (q + 1)) ⌝ }
 {
     let h = q / 134217728;
     let l = q % 134217728;
-    m <= 4 * (h * h) + (2 * (h * l) + h + (l * l + l) / 134217728) / 33554432
+    m <= 4 * (h * h) + (h * (2 * l + 1) + l * (l + 1) / 134217728) / 33554432
 }

@@ -19,7 +19,11 @@ pub fn root(x: f64) -> f64
         if b < 4503599627370496 {
             root_of_low(b)
         } else {
-            if b < 9218868437227405312 { root_of_normal(x, b) } else { x }
+            if b < 9218868437227405312 {
+                root_of_normal(x, b)
+            } else {
+                x
+            }
         }
     } else {
         if x < 0.0 { 0.0 / 0.0 } else { x }
@@ -35,7 +39,11 @@ fn root_of_normal(x: f64, b: u64) -> f64
     let k = places / 2 - 26;
     let m = (4503599627370496 + b % 4503599627370496) * (1 + places % 2);
     let g = guess(x, b);
-    if is_root(g, m, k) { g } else { root_by_halving(m, k) }
+    if is_root(g, m, k) {
+        g
+    } else {
+        root_by_halving(m, k)
+    }
 }
 
 // The root of a number below the least normal one: its digits are first moved up to where a normal number has them.
@@ -90,7 +98,11 @@ fn is_root(g: f64, m: u64, k: u64) -> bool
         let b = f64::to_bits(g);
         if b / 4503599627370496 == k + 1 {
             let q = b % 4503599627370496 + 4503599627370496;
-            if enough(q, m) { !enough(q - 1, m) } else { false }
+            if enough(q, m) {
+                !enough(q - 1, m)
+            } else {
+                false
+            }
         } else {
             false
         }

@@ -1,15 +1,15 @@
 -- The laws of the root over whole numbers.
 use Prim.Native.Nat.{ℕ, zero, suc, _+_, _-_, _*_, _/_, _%_, _^_, _≤_, _<_, compare, Ordering, Ordering·lt, Ordering·eq, Ordering·gt}
 use native.Mathlib.Numerals.{add-one}
-use native.Mathlib.Nat.{le-antisymm, le-of-suc-le-suc, not-suc-le-zero, le-refl, le-trans, le-of-eq, le-of-lt, lt-of-lt-of-le, lt-of-le-of-lt, lt-of-not-le, not-le-of-lt, zero-mul, one-mul, mul-one, mul-assoc, mul-comm, mul-right-comm, mul-add, add-mul, mul-mul-mul-comm, mul-le-mul, mul-le-mul-left, mul-le-mul-right, mul-pos, mul-lt-mul-of-pos-right, lt-of-mul-lt-mul-right, le-of-mul-le-mul-right, mul-div-cancel, div-mul-le-self, lt-div-mul-add, div-lt-iff-lt-mul, le-div-iff-mul-le, zero-div, pow-succ'}
+use native.Mathlib.Nat.{le-antisymm, le-of-suc-le-suc, not-suc-le-zero, le-trans, le-of-eq, le-of-lt, lt-of-lt-of-le, lt-of-le-of-lt, lt-of-not-le, not-le-of-lt, one-mul, mul-one, mul-assoc, mul-add, add-mul, mul-mul-mul-comm, mul-le-mul, mul-le-mul-left, mul-le-mul-right, mul-pos, mul-lt-mul-of-pos-right, lt-of-mul-lt-mul-right, le-of-mul-le-mul-right, div-mul-le-self, lt-div-mul-add, le-div-iff-mul-le, pow-succ'}
 use native.Mathlib.Omega.{arith}
 use mathlib.Core.Path.{_≡_, refl, sym, ap, _∙_, subst}
 use mathlib.Core.Logic.{_⊎_, inl, inr}
 use mathlib.Core.Bool.{Bool, true, false, not, cond}
-use lib.Dec.{T, isLe, isEq, leb, ltb, leb→le, nleb→lt, eqb→eq}
-use lib.Pow.{pow-pos, pow-mono, pow-lt, pow-add}
-use lib.Ieee.{Float, nan, inf, fin, Format, binary64, prec, emax, low, up, down, size, nearest, odd, units, fits}
-use lib.Ieee.Digits.{size-lt, size-le, size-reaches}
+use lib.Dec.{T, isLe, isEq, leb, leb→le, nleb→lt, eqb→eq}
+use lib.Pow.{pow-pos, pow-mono, pow-add}
+use lib.Ieee.{binary64, size, nearest, odd, units}
+use lib.Ieee.Digits.{size-lt, size-le}
 use Rattle.rules.specs.Root.{rootDigits, wholeRoot, rootOfUnits, root}
 
 -- ---- squares
@@ -55,6 +55,7 @@ digit-more s n within = go (leb odd n) (leb→le odd n) (nleb→lt odd n)
   where
     odd : ℕ
     odd = (2 * s + 1) * (2 * s + 1)
+
     go : (b : Bool) → (T b → (2 * s + 1) * (2 * s + 1) ≤ n) → (T (not b) → n < (2 * s + 1) * (2 * s + 1)) → IsRoot (cond b (2 * s + 1) (2 * s)) n
     go true y z = (y tt, whole-above n ((s + 1) * (s + 1)) ((2 * s + 1 + 1) * (2 * s + 1 + 1)) (ap sq (two-more s) ∙ sq-twice (s + 1)) (within .1))
     go false y z = (whole-below n (s * s) (2 * s * (2 * s)) (sq-twice s) (within .0), z tt)
@@ -84,8 +85,7 @@ Leading q k w = (q * k * (q * k) ≤ w) × (w < (q + 1) * k * ((q + 1) * k))
 pub leading : (w k : ℕ) → 0 < k → Leading (wholeRoot w / k) k w
 leading w k pos =
     let r = wholeRoot w in
-    let q = r / k in
-    (
+    let q = r / k in (
       le-trans (sq-mono (div-mul-le-self r k)) (wholeRoot-is w .0),
       lt-of-lt-of-le (wholeRoot-is w .1) (sq-mono (one-up r ((q + 1) * k) (q * k + k) (lt-div-mul-add pos) (one-more q k))),
     )
@@ -190,8 +190,7 @@ digits-are n k lo hi =
     let w = n * (K * K) in
     let r = wholeRoot w in
     let at-least : 2 ^ 52 * K * (2 ^ 52 * K) ≤ w = subst (λ (a : ℕ). a ≤ w) (sym (shifted-sq (2 ^ 52) K)) (mul-le-mul-right (K * K) lo) in
-    let below : w < 2 ^ 53 * K * (2 ^ 53 * K) = subst (λ (a : ℕ). w < a) (sym (shifted-sq (2 ^ 53) K)) (mul-lt-mul-of-pos-right hi (mul-pos (pow-pos k) (pow-pos k))) in
-    (
+    let below : w < 2 ^ 53 * K * (2 ^ 53 * K) = subst (λ (a : ℕ). w < a) (sym (shifted-sq (2 ^ 53) K)) (mul-lt-mul-of-pos-right hi (mul-pos (pow-pos k) (pow-pos k))) in (
       before-next (2 ^ 52 * K) r (sq-lt-back (lt-of-le-of-lt at-least (wholeRoot-is w .1))),
       sq-lt-back (lt-of-le-of-lt (wholeRoot-is w .0) below),
     )

@@ -1,6 +1,6 @@
 -- No value of the format lies nearer to the exact root than what the rule gives, for each finite number above zero and both formats.
 use Prim.Native.Nat.{ℕ, zero, suc, _+_, _-_, _*_, _/_, _%_, _^_, _≤_, _<_, zero-le, compare}
-use native.Mathlib.Nat.{le-trans, le-of-eq, le-of-lt, lt-of-lt-of-le, lt-of-le-of-lt, lt-irrefl, lt-of-not-le, not-le-of-lt, mul-one, mul-assoc, mul-comm, mul-right-comm, mul-le-mul-left, mul-le-mul-right, mul-lt-mul-of-pos-right, mul-pos, mul-div-cancel, zero-mul, zero-div, le-div-iff-mul-le, div-lt-iff-lt-mul, pow-succ'}
+use native.Mathlib.Nat.{le-trans, le-of-eq, le-of-lt, lt-of-lt-of-le, lt-of-le-of-lt, lt-of-not-le, not-le-of-lt, mul-one, mul-assoc, mul-comm, mul-right-comm, mul-le-mul-right, mul-lt-mul-of-pos-right, mul-pos, mul-div-cancel, zero-mul, zero-div, le-div-iff-mul-le, div-lt-iff-lt-mul, pow-succ'}
 use native.Mathlib.Omega.{arith}
 use mathlib.Core.Path.{_≡_, refl, sym, ap, _∙_, subst}
 use mathlib.Core.Logic.{_⊎_, inl, inr}
@@ -33,6 +33,7 @@ twice-le r g w l h = le-trans (times-four (r * r) (2 * r * (2 * r)) (sq-twice r)
   where
     times-four : (a b : ℕ) → b ≡ 4 * a → w ≤ a → 4 * w ≤ b
     times-four a b e h = omega arith
+
     double : (r g : ℕ) → r < g → 2 * r ≤ r + g
     double r g l = omega arith
 
@@ -41,6 +42,7 @@ twice-ge r g w l h = le-trans (sq-mono (double r g l)) (times-four (r * r) (2 * 
   where
     times-four : (a b : ℕ) → b ≡ 4 * a → a ≤ w → b ≤ 4 * w
     times-four a b e h = omega arith
+
     double : (r g : ℕ) → g < r → r + g ≤ 2 * r
     double r g l = omega arith
 
@@ -69,6 +71,7 @@ whole-side g q k = go (leb g q) (leb→le g q) (nleb→lt g q)
   where
     next : (g q : ℕ) → q < g → q + 1 ≤ g
     next g q h = omega arith
+
     go : (b : Bool) → (T b → g ≤ q) → (T (not b) → q < g) → (g * k ≤ q * k) ⊎ (q * k + k ≤ g * k)
     go true y n = inl (mul-le-mul-right k (y tt))
     go false y n = inr (le-trans (le-of-eq (sym (one-more q k))) (mul-le-mul-right k (next g q (n tt))))
@@ -79,23 +82,28 @@ apart p r g j one h = go (leb k j) (leb→le k j) (nleb→lt k j)
   where
     k : ℕ
     k = size r - p
+
     q : ℕ
     q = r / 2 ^ (size r - p)
+
     split : k ≤ j → g * 2 ^ (j - k) * 2 ^ k ≡ g * 2 ^ j
     split l = mul-assoc g (2 ^ (j - k)) (2 ^ k) ∙ ap (λ (x : ℕ). g * x) (sym (pow-add 2 (j - k) k) ∙ ap (λ (x : ℕ). 2 ^ x) (back l))
       where
         back : k ≤ j → j - k + k ≡ j
         back l = omega arith
+
     leads : j < k → 2 ^ (p - 1) * 2 ^ k ≤ q * 2 ^ k
     leads l = mul-le-mul-right (2 ^ k) (le-div-iff-mul-le (pow-pos k) .1 (subst (λ (x : ℕ). x ≤ r) (pow-add 2 (p - 1) k) (size-reaches r (p - 1 + k) (within l))))
       where
         within : j < size r - p → p - 1 + (size r - p) < size r
         within l = omega arith
+
     short : j < k → g * 2 ^ j ≤ 2 ^ (p - 1) * 2 ^ k
     short l = le-trans (le-of-lt (shl-lt p j h)) (le-trans (pow-mono (room l)) (le-of-eq (pow-add 2 (p - 1) k)))
       where
         room : j < size r - p → p + j ≤ p - 1 + (size r - p)
         room l = omega arith
+
     go : (b : Bool) → (T b → k ≤ j) → (T (not b) → j < k) → (g * 2 ^ j ≤ q * 2 ^ k) ⊎ (q * 2 ^ k + 2 ^ k ≤ g * 2 ^ j)
     go true y n = subst (λ (x : ℕ). (x ≤ q * 2 ^ k) ⊎ (q * 2 ^ k + 2 ^ k ≤ x)) (split (y tt)) (whole-side (g * 2 ^ (j - k)) q (2 ^ k))
     go false y n = inl (le-trans (short (n tt)) (leads (n tt)))
@@ -113,8 +121,7 @@ place : (m : ℕ) (e : ℤ) (l : ℕ) → down e ≤ 2 ^ l → (j : ℕ) × (m *
 place m (pos a) l h = (a + l, mul-assoc m (2 ^ a) (2 ^ l) ∙ ap (λ (x : ℕ). m * x) (sym (pow-add 2 a l)) ∙ sym (mul-one (m * 2 ^ (a + l))))
 place m (negsuc a) l h =
     let le : suc a ≤ l = power-le a l h in
-    let j = l - suc a in
-    (
+    let j = l - suc a in (
       j,
       ap (λ (x : ℕ). x * 2 ^ l) (mul-one m)
           ∙ ap (λ (x : ℕ). m * x) (ap (λ (x : ℕ). 2 ^ x) (sym (back a l le)) ∙ pow-add 2 j (suc a))
@@ -127,10 +134,13 @@ place m (negsuc a) l h =
 module _ (f : Format) (s : Bool) (m : ℕ) (e : ℤ) (h : T (fits f (fin s (suc m) e))) where
   abbrev A : Bool
   A = eqb (suc m % 2) 1
+
   abbrev B : Bool
   B = ltb (suc m) (2 ^ prec f)
+
   abbrev C : Bool
   C = leb (down e) (2 ^ low f)
+
   abbrev D : Bool
   D = ltb (suc m * up e) (2 ^ suc (emax f) * down e)
 
@@ -208,10 +218,13 @@ room binary64 = (lit≤ tt, lit≤ tt)
 module _ (f : Format) (w : ℕ) (w-lt : w < 2 ^ suc (emax f) * (2 ^ low f * 2 ^ low f)) where
   abbrev r : ℕ
   r = wholeRoot w
+
   abbrev k : ℕ
   k = size r - prec f
+
   abbrev q : ℕ
   q = r / 2 ^ k
+
   abbrev n : ℕ
   n = nearest q (compare (4 * w) (middle q (2 ^ k)))
 
@@ -267,5 +280,5 @@ root-is-nearest f m e h =
       number = subst (λ (y : Float). T (isNumber y)) (sym (result-is f w small)) (result-value f w small .0);
       held = subst (λ (y : Float). T (fits f y)) (sym (result-is f w small)) (units-held f (n f w small) (k f w small) (n-most f w small) (in-range f w small));
       above = λ y number held. result-nearer f w small y number held .0;
-      below = λ y number held. result-nearer f w small y number held .1
+      below = λ y number held. result-nearer f w small y number held .1;
     })

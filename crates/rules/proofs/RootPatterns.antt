@@ -1,12 +1,11 @@
 -- The root by bit patterns: what a pattern's root is in whole numbers, and which pattern the answer has.
 use Prim.Native.Nat.{ℕ, zero, suc, _+_, _-_, _*_, _/_, _%_, _^_, _≤_, _<_}
-use native.Mathlib.Nat.{lt-of-not-le, not-le-of-lt, lt-of-le-of-lt, mul-le-mul-right, le-trans, le-of-eq, lt-of-lt-of-le, lt-irrefl, mul-one, one-mul, zero-mul, mul-assoc, mul-right-comm, mul-pos, mul-div-cancel, div-lt-iff-lt-mul, pow-suc, zero-lt-suc, mul-lt-mul-of-pos-right}
+use native.Mathlib.Nat.{lt-of-not-le, not-le-of-lt, lt-of-le-of-lt, mul-le-mul-right, le-trans, le-of-eq, lt-of-lt-of-le, lt-irrefl, mul-one, one-mul, zero-mul, mul-assoc, mul-right-comm, mul-pos, mul-div-cancel, div-lt-iff-lt-mul, pow-suc, zero-lt-suc}
 use native.Mathlib.Omega.{arith}
 use mathlib.Core.Path.{_≡_, refl, sym, ap, _∙_, subst}
 use mathlib.Core.Bool.{Bool, true, false, not, cond}
 use borrow.Author.Tests.{lt-leb, ne-eqb, lt-ltb}
-use lib.IntN.{ℤ}
-use lib.Dec.{T, leb, ltb, eqb, nltb→le}
+use lib.Dec.{T, leb, eqb, nltb→le}
 use lib.Arith.{le→nltb}
 use lib.Count.{trailingZeros, under}
 use lib.Pow.{pow-pos, pow-mono, pow-add, shl-lt}
@@ -79,8 +78,10 @@ trailing-more (suc d) q p h = go (q % 2) refl (trailing-more d (q / 2))
   where
     half-lt : q / 2 < 2 ^ d
     half-lt = div-lt-iff-lt-mul (zero-lt-suc 1) .1 (subst (λ (x : ℕ). q < x) (pow-suc 2 d) h)
+
     half-pos : q % 2 ≡ 0 → 0 < q / 2
     half-pos e = omega arith
+
     go : (r : ℕ) → q % 2 ≡ r → (0 < q / 2 → q / 2 < 2 ^ d → trailingZeros (suc d) (q / 2) ≡ trailingZeros d (q / 2))
         → under r (trailingZeros (suc d) (q / 2)) ≡ under r (trailingZeros d (q / 2))
     go zero e ih = ap suc (ih (half-pos e) half-lt)
@@ -107,8 +108,10 @@ units-pattern q k lo hi le =
   where
     room : (k : ℕ) → k ≤ 2045 → 53 + k ≤ 2098
     room k h = omega arith
+
     digits : (q k : ℕ) → 2 ^ 52 ≤ q → q < 2 ^ 53 → q ≡ 2 ^ 52 + (k * 2 ^ 52 + q) % 2 ^ 52
     digits q k lo hi = omega arith
+
     place : (q k : ℕ) → 2 ^ 52 ≤ q → q < 2 ^ 53 → k ≡ (k * 2 ^ 52 + q) / 2 ^ 52 - 1
     place q k lo hi = omega arith
 
@@ -144,6 +147,7 @@ root-of-normal b lo hi =
   where
     above : (t : ℕ) → 0 < 2 ^ 52 + t
     above t = omega arith
+
     place : (b : ℕ) → 2 ^ 52 ≤ b → b / 2 ^ 52 - 1 + 1074 ≡ b / 2 ^ 52 + 1073
     place b lo = omega arith
 
@@ -167,6 +171,7 @@ even-places m e h =
   where
     parts : (e : ℕ) → 52 ≤ e → e ≡ e % 2 + 52 + (e / 2 - 26 + (e / 2 - 26))
     parts e h = omega arith
+
     below-two : (e : ℕ) → e % 2 < 2
     below-two e = omega arith
 
@@ -176,8 +181,10 @@ moved m e lo hi = go (e % 2) (below-two e)
   where
     below-two : (e : ℕ) → e % 2 < 2
     below-two e = omega arith
+
     no : (r : ℕ) → suc (suc r) < 2 → ⊥
     no r h = omega arith
+
     go : (r : ℕ) → r < 2 → (2 ^ 52 ≤ m * (1 + r)) × (m * (1 + r) + 1 < 2 ^ 54)
     go zero h = (omega arith, omega arith)
     go (suc zero) h = (omega arith, omega arith)
@@ -189,5 +196,6 @@ places-left b t e p h same = back e (lt-of-not-le (λ (g : 53 + e ≤ 1074). not
   where
     short : 2 ^ 1074 < 2 ^ (53 + e)
     short = lt-of-le-of-lt (le-trans (le-of-eq (sym (one-mul (2 ^ 1074)))) (mul-le-mul-right (2 ^ 1074) p)) (subst (λ (x : ℕ). x < 2 ^ (53 + e)) same (shl-lt 53 e h))
+
     back : (e : ℕ) → 1074 < 53 + e → 1022 ≤ e
     back e h = omega arith

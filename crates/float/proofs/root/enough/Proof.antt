@@ -1,6 +1,6 @@
 -- `float::root::enough` meets its contract: the product by the two parts of q, h of 26 digits and l of 27. Assumes nothing.
 use Prim.Native.Nat.{ℕ, _+_, _*_, _/_, _%_, _^_, _≤_, _<_}
-use native.Mathlib.Nat.{mul-le-mul, mul-add, add-mul, mul-one, mul-assoc, mul-comm, mul-left-comm, mul-mul-mul-comm, mul-right-comm}
+use native.Mathlib.Nat.{mul-le-mul, mul-add, add-mul, mul-assoc, mul-comm, mul-left-comm, mul-mul-mul-comm, mul-right-comm}
 use native.Mathlib.Omega.{arith}
 use mathlib.Core.Path.{_≡_, refl, sym, ap, _∙_}
 use mathlib.Core.Bool.{Bool, true, false}

@@ -1,3 +1,4 @@
+-- `float::root::is_root` meets its contract: a guess that passes both tests has the root's pattern. Assumes nothing.
 use borrow.Author.Needs.{needs}
 use native.Mathlib.Omega.{arith}
 use Prim.Native.Nat.{ℕ, _+_, _-_, _*_, _/_, _%_, _^_, _≤_, _<_}
@@ -12,9 +13,6 @@ use Rattle.rules.proofs.RootPatterns.{equal-to-itself, root-pattern}
 use Rattle.float.specs.Root.{Digits}
 use Rattle.float.proofs.root.is_root.Statement.{statement}
 use Rattle.float.proofs.root.is_root.Tie as tie
-use Rattle.float.proofs.root.is_root.Reads as reads
-use Rattle.float.proofs.root.is_root.Lts as lts
-use Rattle.float.proofs.root.enough.Reads as enough-reads
 
 float-to-bits-b : tie.Need-float-to-bits-b
 float-to-bits-b c = equal-to-itself (c .before .args .g) (c .if1 .taken)
@@ -58,8 +56,8 @@ returns c =
     let b = toBits binary64 (start .args .g) in
     let q = b % 2 ^ 52 + 2 ^ 52 in
     λ e. is-nearest (start .args .g) m (start .args .k) b q (held start) refl refl (c .before .before .before .if2 .taken) (start .pre)
-        (leb-true (m * 2 ^ 52) (q * (q + 1)) (sym (c .before .before .enough .ensures) ∙ c .before .if3 .taken))
-        (leb-false (m * 2 ^ 52) ((q - 1) * (q - 1 + 1)) (sym (c .enough2 .ensures) ∙ not-true (c .enough2 .result) e))
+    (leb-true (m * 2 ^ 52) (q * (q + 1)) (sym (c .before .before .enough .ensures) ∙ c .before .if3 .taken))
+    (leb-false (m * 2 ^ 52) ((q - 1) * (q - 1 + 1)) (sym (c .enough2 .ensures) ∙ not-true (c .enough2 .result) e))
 
 returns-2 : tie.Need-returns-2
 returns-2 c = λ e. absurd (subst T (sym e) tt)

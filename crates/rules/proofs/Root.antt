@@ -1,4 +1,4 @@
--- The laws of the root over whole numbers.
+-- The laws of the root over whole numbers: `wholeRoot` is the whole root, and the root of a number of known length is the nearest number of that length. Assumes nothing.
 use Prim.Native.Nat.{ℕ, zero, suc, _+_, _-_, _*_, _/_, _%_, _^_, _≤_, _<_, compare, Ordering, Ordering·lt, Ordering·eq, Ordering·gt}
 use native.Mathlib.Numerals.{add-one}
 use native.Mathlib.Nat.{le-antisymm, le-of-suc-le-suc, not-suc-le-zero, le-trans, le-of-eq, le-of-lt, lt-of-lt-of-le, lt-of-le-of-lt, lt-of-not-le, not-le-of-lt, one-mul, mul-one, mul-assoc, mul-add, add-mul, mul-mul-mul-comm, mul-le-mul, mul-le-mul-left, mul-le-mul-right, mul-pos, mul-lt-mul-of-pos-right, lt-of-mul-lt-mul-right, le-of-mul-le-mul-right, div-mul-le-self, lt-div-mul-add, le-div-iff-mul-le, pow-succ'}
@@ -175,7 +175,6 @@ unshift-leading q n k pos h = (
   subst (λ (a : ℕ). n < a) (sq-next q) (lt-of-mul-lt-mul-right (k * k) (subst (λ (a : ℕ). n * (k * k) < a) (shifted-sq (q + 1) k) (h .1))),
 )
 
--- where the root has exactly the format's digits and k more, `rootOfUnits` is the nearest of those digits
 shifted-nearest : (n k : ℕ) → 0 < k → 0 < wholeRoot (n * (k * k)) / k
     → NearestRoot (nearest (wholeRoot (n * (k * k)) / k) (compare (4 * (n * (k * k))) (middle (wholeRoot (n * (k * k)) / k) k))) n
 shifted-nearest n k pos some =

@@ -1,4 +1,4 @@
--- The root by bit patterns: what a pattern's root is in whole numbers, and which pattern the answer has.
+-- The root by bit patterns: what a pattern's root is in whole numbers, and which pattern the answer has. Assumes nothing.
 use Prim.Native.Nat.{ℕ, zero, suc, _+_, _-_, _*_, _/_, _%_, _^_, _≤_, _<_}
 use native.Mathlib.Nat.{lt-of-not-le, not-le-of-lt, lt-of-le-of-lt, mul-le-mul-right, le-trans, le-of-eq, lt-of-lt-of-le, lt-irrefl, mul-one, one-mul, zero-mul, mul-assoc, mul-right-comm, mul-pos, mul-div-cancel, div-lt-iff-lt-mul, pow-suc, zero-lt-suc}
 use native.Mathlib.Omega.{arith}

@@ -22,7 +22,7 @@ fn replay_one() -> Found {
         return Found::Missing;
     }
     let x = patterns::number_of(patterns::word_at(&record, 0));
-    let root = patterns::pattern_of(float::root::root(x));
+    let root = patterns::pattern_of(float::root(x));
     if root == patterns::word_at(&record, 8) {
         Found::Agrees
     } else {

@@ -1,5 +1,6 @@
 pub mod Helpers
 pub mod Root
+pub mod RootNearest
 pub mod RootPatterns
 pub mod Arithmetic
 pub mod Outcome

@@ -1,19 +1,14 @@
+-- `float::roots::root_of_normal` meets its contract: by the digits of the pattern, moved up by one place where that leaves an even number of places. Assumes nothing.
 use borrow.Author.Needs.{needs}
 use native.Mathlib.Omega.{arith}
-use Prim.Native.Nat.{ℕ, _+_, _-_, _*_, _/_, _%_, _^_, _≤_, _<_}
-use mathlib.Core.Path.{_≡_, refl, sym, ap, _∙_}
+use Prim.Native.Nat.{ℕ, _+_, _-_, _*_, _/_, _%_, _^_}
+use mathlib.Core.Path.{_≡_, sym, ap, _∙_}
 use lib.Ieee.{binary64, ofBits}
 use Rattle.rules.specs.Root.{rootOfUnits, root}
 use Rattle.rules.proofs.RootPatterns.{root-of-normal, even-places, moved}
 use Rattle.float.specs.Root.{Digits}
-use borrow.Author.Needs.{needs}
-use Rattle.float.proofs.root.root_of_normal.Statement.{statement}
-use Rattle.float.proofs.root.root_of_normal.Tie as tie
-use Rattle.float.proofs.root.root_of_normal.Reads as reads
-use Rattle.float.proofs.root.root_of_normal.Lts as lts
-use Rattle.float.proofs.root.guess.Reads as guess-reads
-use Rattle.float.proofs.root.is_root.Reads as is-root-reads
-use Rattle.float.proofs.root.root_by_halving.Reads as root-by-halving-reads
+use Rattle.float.proofs.roots.root_of_normal.Statement.{statement}
+use Rattle.float.proofs.roots.root_of_normal.Tie as tie
 
 add-places : tie.Need-add-places
 add-places c = search needs

@@ -1,26 +1,22 @@
--- `float::root::root` meets its contract. Assumes nothing.
+-- `float::roots::root` meets its contract: below zero, at zero and at NaN by the rule's own cases, above zero by the pattern. Assumes nothing.
 use Prim.Native.Nat.{ℕ, zero, suc, _+_, _*_, _/_, _%_, _^_, _≤_, _<_}
-use native.Mathlib.Nat.{eq-zero-or-pos, lt-irrefl, lt-of-not-le, mul-pos, zero-lt-suc, zero-mul, lt-of-lt-of-le, not-le-of-lt}
+use native.Mathlib.Nat.{eq-zero-or-pos, lt-of-not-le, mul-pos, zero-lt-suc}
 use native.Mathlib.Omega.{arith}
 use mathlib.Core.Path.{_≡_, refl, sym, ap, _∙_, subst}
 use mathlib.Core.Logic.{⊎-elim}
 use mathlib.Core.Bool.{Bool, true, false, not, cond}
 use borrow.Author.Needs.{needs}
 use borrow.Author.Tests.{ltb-true, ltb-false, le-leb}
-use lib.IntN.{ℤ, pos}
-use lib.Dec.{T, leb, ltb, eqb}
+use lib.IntN.{ℤ}
+use lib.Dec.{T, leb, eqb}
 use lib.Ieee as Ieee
 use lib.Ieee.{Float, nan, inf, fin, binary64, up, down, odd, fits, isNan, ofFields, ofBits, toBits}
 use lib.Ieee.Fits.{up-pos}
 use lib.Ieee.Bits.{ofBits-toBits}
 use Rattle.rules.specs.Root.{root}
 use Rattle.rules.proofs.RootPatterns.{pattern-of-no-nan}
-use Rattle.float.proofs.root.root.Statement.{statement}
-use Rattle.float.proofs.root.root.Tie as tie
-use Rattle.float.proofs.root.root.Reads as reads
-use Rattle.float.proofs.root.root.Lts as lts
-use Rattle.float.proofs.root.root_of_low.Reads as root-of-low-reads
-use Rattle.float.proofs.root.root_of_normal.Reads as root-of-normal-reads
+use Rattle.float.proofs.roots.root.Statement.{statement}
+use Rattle.float.proofs.roots.root.Tie as tie
 
 abbrev +0 : Float
 +0 = ofBits binary64 0

@@ -1,7 +1,7 @@
-// The root, correctly rounded to nearest. Float arithmetic only guesses the answer; whole numbers say whether the guess is right, and
-// a search by halving finds the answer where it is not. Of a number above zero the root has the digits q, of which there are 53, and
-// the pattern k * 2^52 + q, where the number is m * 2^52 * 4^k squares of the least value. q is nearest where
-// (q - 1) * q < m * 2^52 <= q * (q + 1).
+// The root, correctly rounded to nearest. Float arithmetic only guesses it, and nothing is proved of the guess: whole numbers say
+// whether it is right, and where it is not, as for some 2 in 10,000 normal numbers, a search by halving finds the root.
+// A number above zero is m * 2^52 * 4^k squares of the format's least value, with an m of 53 or 54 digits. Its root is q * 2^k least
+// values, for the q of 53 digits with (q - 1) * q < m * 2^52 <= q * (q + 1), and has the bit pattern k * 2^52 + q.
 ghost use mathlib.Core.Path.{_≡_};
 ghost use mathlib.Core.Bool.{true};
 ghost use Prim.Native.Nat.{_+_, _*_, _^_, _≤_, _<_};
@@ -60,8 +60,9 @@ fn root_of_low(b: u64) -> f64
     root_by_halving(t * (1 + places % 2), places / 2 - 26)
 }
 
-// A guess at the root: 1/√x to 3.5 % from the pattern, a polynomial that makes it s, right to 39 digits or so, and one step by the
-// exact error of s. For that s is cut to c, whose square is exact, and x - s * s is x - c * c - 2 * c * u - u * u.
+// A guess at the root of x, whose pattern is b. The pattern gives y, which is 1/√x to 3.5 %, and a polynomial makes of it f, so that
+// s = x * y * f is the root to 39 digits and y * f / 2 is 1/(2 * √x). One step by the error of s then gives the last digits: with
+// s = c + u, where c is short enough that c * c is exact, s + (x - s * s) / (2 * s) comes to c + (x - c * c + u * u) / (2 * s).
 fn guess(x: f64, b: u64) -> f64
     requires { ⌜ b < 2047 * 2 ^ 52 ⌝ }
 {
@@ -79,7 +80,7 @@ fn guess(x: f64, b: u64) -> f64
     c + ((x - c * c) + u * u) * (0.5 * y * f)
 }
 
-// The 26 leading digits.
+// The 26 leading digits of s.
 fn cut(s: f64) -> f64 {
     if s == s {
         let b = f64::to_bits(s);
@@ -89,7 +90,7 @@ fn cut(s: f64) -> f64 {
     }
 }
 
-// Whether g is the root.
+// Whether g is the root of m * 2^52 * 4^k squares of the least value.
 fn is_root(g: f64, m: u64, k: u64) -> bool
     requires { ⌜ Digits m k ⌝ }
     ensures { λ r. ⌜ (r ≡ true → g ≡ rules.rootOfUnits binary64 (m * 2 ^ 52 * (2 ^ k * 2 ^ k))) ⌝ }
@@ -111,7 +112,7 @@ fn is_root(g: f64, m: u64, k: u64) -> bool
     }
 }
 
-// The root, whatever it takes.
+// The root of m * 2^52 * 4^k squares of the least value.
 fn root_by_halving(m: u64, k: u64) -> f64
     requires { ⌜ Digits m k ⌝ }
     ensures { λ r. ⌜ r ≡ rules.rootOfUnits binary64 (m * 2 ^ 52 * (2 ^ k * 2 ^ k)) ⌝ }
@@ -119,7 +120,7 @@ fn root_by_halving(m: u64, k: u64) -> f64
     f64::from_bits(k * 4503599627370496 + halved(m))
 }
 
-// The least q of 53 digits that is enough.
+// The digits of the root: the least q of 53 digits that is enough.
 fn halved(m: u64) -> u64
     requires { ⌜ (2 ^ 52 ≤ m) × (m + 1 < 2 ^ 54) ⌝ }
     ensures { λ r. ⌜ Halved m r ⌝ }
@@ -138,12 +139,12 @@ fn halved(m: u64) -> u64
 }
 
 // Whether q * (q + 1) is at least m * 2^52. The product is too wide, but cut at 52 digits it is not: with q = h * 2^27 + l it is
-// h * h * 2^54 + (2 * h * l + h) * 2^27 + l * l + l.
+// h * h * 2^54 + h * (2 * l + 1) * 2^27 + l * (l + 1).
 fn enough(q: u64, m: u64) -> bool
     requires { ⌜ q < 2 ^ 53 ⌝ }
     ensures { λ r. ⌜ r ≡ leb (m * 2 ^ 52) (q * (q + 1)) ⌝ }
 {
     let h = q / 134217728;
     let l = q % 134217728;
-    m <= 4 * (h * h) + (2 * (h * l) + h + (l * l + l) / 134217728) / 33554432
+    m <= 4 * (h * h) + (h * (2 * l + 1) + l * (l + 1) / 134217728) / 33554432
 }

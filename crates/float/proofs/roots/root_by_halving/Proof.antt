@@ -1,14 +1,11 @@
+-- `float::roots::root_by_halving` meets its contract: the digits found are the nearest, and their pattern is the root's. Assumes nothing.
 use borrow.Author.Needs.{needs}
 use native.Mathlib.Omega.{arith}
-use Prim.Native.Nat.{ℕ, _+_, _-_, _*_, _^_, _≤_, _<_}
-use mathlib.Core.Path.{_≡_, refl, sym, ap, _∙_}
+use Prim.Native.Nat.{_+_, _*_, _^_}
+use mathlib.Core.Path.{sym}
 use Rattle.rules.proofs.RootPatterns.{no-nan-pattern, root-pattern}
-use borrow.Author.Needs.{needs}
-use Rattle.float.proofs.root.root_by_halving.Statement.{statement}
-use Rattle.float.proofs.root.root_by_halving.Tie as tie
-use Rattle.float.proofs.root.root_by_halving.Reads as reads
-use Rattle.float.proofs.root.root_by_halving.Lts as lts
-use Rattle.float.proofs.root.halved.Reads as halved-reads
+use Rattle.float.proofs.roots.root_by_halving.Statement.{statement}
+use Rattle.float.proofs.roots.root_by_halving.Tie as tie
 
 mul-result : tie.Need-mul-result
 mul-result c = search needs

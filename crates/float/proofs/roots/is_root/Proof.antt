@@ -1,3 +1,4 @@
+-- `float::roots::is_root` meets its contract: a guess that passes both tests has the root's pattern. Assumes nothing.
 use borrow.Author.Needs.{needs}
 use native.Mathlib.Omega.{arith}
 use Prim.Native.Nat.{ℕ, _+_, _-_, _*_, _/_, _%_, _^_, _≤_, _<_}
@@ -10,11 +11,8 @@ use Rattle.rules.specs.Root.{rootOfUnits}
 use Rattle.rules.proofs.Root.{at-most, above-last}
 use Rattle.rules.proofs.RootPatterns.{equal-to-itself, root-pattern}
 use Rattle.float.specs.Root.{Digits}
-use Rattle.float.proofs.root.is_root.Statement.{statement}
-use Rattle.float.proofs.root.is_root.Tie as tie
-use Rattle.float.proofs.root.is_root.Reads as reads
-use Rattle.float.proofs.root.is_root.Lts as lts
-use Rattle.float.proofs.root.enough.Reads as enough-reads
+use Rattle.float.proofs.roots.is_root.Statement.{statement}
+use Rattle.float.proofs.roots.is_root.Tie as tie
 
 float-to-bits-b : tie.Need-float-to-bits-b
 float-to-bits-b c = equal-to-itself (c .before .args .g) (c .if1 .taken)

@@ -1,13 +1,10 @@
+-- `float::roots::guess` meets its contract, which says nothing: only the pattern of the first guess has to be no NaN's. Assumes nothing.
 use borrow.Author.Needs.{needs}
 use native.Mathlib.Omega.{arith}
-use Prim.Native.Nat.{ℕ, _+_, _-_, _/_, _*_, _≤_, _<_}
-use mathlib.Core.Path.{_≡_, refl, sym, ap, _∙_}
+use Prim.Native.Nat.{_-_, _/_}
 use Rattle.rules.proofs.RootPatterns.{no-nan-pattern}
-use Rattle.float.proofs.root.guess.Statement.{statement}
-use Rattle.float.proofs.root.guess.Tie as tie
-use Rattle.float.proofs.root.guess.Reads as reads
-use Rattle.float.proofs.root.guess.Lts as lts
-use Rattle.float.proofs.root.cut.Reads as cut-reads
+use Rattle.float.proofs.roots.guess.Statement.{statement}
+use Rattle.float.proofs.roots.guess.Tie as tie
 
 sub-y : tie.Need-sub-y
 sub-y c = search needs

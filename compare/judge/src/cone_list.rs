@@ -32,7 +32,11 @@ impl Block {
 /// The places of cone work that the largest semidefinite block needs.
 pub fn work_len(blocks: &[Block]) -> usize {
     let orders = blocks.iter().filter(|b| b.kind == Kind::Semidefinite);
-    orders.map(|b| order(b.size).unwrap()).map(|d| d + d * d).max().unwrap_or(0)
+    orders
+        .map(|b| order(b.size).unwrap())
+        .map(|d| d + d * d)
+        .max()
+        .unwrap_or(0)
 }
 
 /// What the list did: it outlives the list, which the solver takes.

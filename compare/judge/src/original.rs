@@ -81,19 +81,40 @@ pub fn transform_ge(
     y
 }
 
-pub fn transform_sp(n: usize, alpha: f64, mat: &[f64], x: &[f64], beta: f64, mut y: Vec<f64>) -> Vec<f64> {
+pub fn transform_sp(
+    n: usize,
+    alpha: f64,
+    mat: &[f64],
+    x: &[f64],
+    beta: f64,
+    mut y: Vec<f64>,
+) -> Vec<f64> {
     L::transform_sp(n, alpha, mat, x, beta, &mut y);
     y
 }
 
 // The matrix operator.
 
-pub fn op(typ: MatType, mat: &[f64], alpha: f64, x: &[f64], beta: f64, mut y: Vec<f64>) -> Vec<f64> {
+pub fn op(
+    typ: MatType,
+    mat: &[f64],
+    alpha: f64,
+    x: &[f64],
+    beta: f64,
+    mut y: Vec<f64>,
+) -> Vec<f64> {
     MatOp::<L>::new(typ, mat).op(alpha, x, beta, &mut y);
     y
 }
 
-pub fn trans_op(typ: MatType, mat: &[f64], alpha: f64, x: &[f64], beta: f64, mut y: Vec<f64>) -> Vec<f64> {
+pub fn trans_op(
+    typ: MatType,
+    mat: &[f64],
+    alpha: f64,
+    x: &[f64],
+    beta: f64,
+    mut y: Vec<f64>,
+) -> Vec<f64> {
     MatOp::<L>::new(typ, mat).trans_op(alpha, x, beta, &mut y);
     y
 }
@@ -139,12 +160,20 @@ pub const KINDS: [Kind; 5] = [
 
 /// The order d of a semidefinite block of this size, if the size is d(d+1)/2.
 pub fn order(size: usize) -> Option<usize> {
-    (0..=size).find(|d| d * (d + 1) / 2 >= size).filter(|d| d * (d + 1) / 2 == size)
+    (0..=size)
+        .find(|d| d * (d + 1) / 2 >= size)
+        .filter(|d| d * (d + 1) / 2 == size)
 }
 
 /// One block's projection. `work` serves semidefinite blocks alone. With a watched number the
 /// sweep limit in force makes it fail; with a plain f64 a Jacobi loop without end stays so.
-pub fn proj<F: Number>(kind: Kind, dual: bool, x: &mut [F], work: &mut [F], eps_zero: F) -> Result<(), ()> {
+pub fn proj<F: Number>(
+    kind: Kind,
+    dual: bool,
+    x: &mut [F],
+    work: &mut [F],
+    eps_zero: F,
+) -> Result<(), ()> {
     match kind {
         Kind::Zero => ConeZero::<FloatGeneric<F>>::new().proj(dual, x),
         Kind::Nonnegative => ConeRPos::<FloatGeneric<F>>::new().proj(dual, x),
@@ -160,7 +189,12 @@ pub fn proj<F: Number>(kind: Kind, dual: bool, x: &mut [F], work: &mut [F], eps_
 }
 
 /// The eigenvalue map of the semidefinite cone without its scaling of the diagonal.
-pub fn map_eig<F: Number>(mat: &mut [F], scale_diag: Option<F>, eps_zero: F, work: &mut [F]) -> Result<(), ()> {
+pub fn map_eig<F: Number>(
+    mat: &mut [F],
+    scale_diag: Option<F>,
+    eps_zero: F,
+    work: &mut [F],
+) -> Result<(), ()> {
     let order = order(mat.len()).expect("a triangular size");
     within_sweep_limit::<F>(order, || {
         FloatGeneric::<F>::map_eig(mat, scale_diag, eps_zero, work, |e| {
@@ -170,7 +204,10 @@ pub fn map_eig<F: Number>(mat: &mut [F], scale_diag: Option<F>, eps_zero: F, wor
     })
 }
 
-fn within_sweep_limit<F: Number>(order: usize, f: impl FnOnce() -> Result<(), ()>) -> Result<(), ()> {
+fn within_sweep_limit<F: Number>(
+    order: usize,
+    f: impl FnOnce() -> Result<(), ()>,
+) -> Result<(), ()> {
     F::jacobi_begins(order);
     match catch_unwind(AssertUnwindSafe(f)) {
         Ok(answer) => answer,

@@ -97,7 +97,12 @@ impl Problem {
                 &mut work,
             ))
             .map(|_| ());
-        Bare { verdict, progress, work: plain(work), cone_work: plain(cone_work) }
+        Bare {
+            verdict,
+            progress,
+            work: plain(work),
+            cone_work: plain(cone_work),
+        }
     }
 
     /// The watched run, with all that an ending carries.
@@ -116,8 +121,12 @@ impl Problem {
             Err(SolverError::ExcessIter) => {
                 Ending::ExcessIterUnscaled(criteria(&line, "unbdd_infeas"))
             }
-            Err(SolverError::Unbounded) => Ending::Unbounded(criteria::<2>(&line, "unbdd_infeas")[0]),
-            Err(SolverError::Infeasible) => Ending::Infeasible(criteria::<2>(&line, "unbdd_infeas")[1]),
+            Err(SolverError::Unbounded) => {
+                Ending::Unbounded(criteria::<2>(&line, "unbdd_infeas")[0])
+            }
+            Err(SolverError::Infeasible) => {
+                Ending::Infeasible(criteria::<2>(&line, "unbdd_infeas")[1])
+            }
             Err(SolverError::ConeFailure) => {
                 // The rule clears both buffers; the original leaves them where it stood.
                 run.work.fill(0.0);

@@ -83,12 +83,18 @@ pub struct Sight {
 
 /// Starts the counts anew, with this sweep limit.
 pub fn watch(sweep_limit: usize) {
-    WATCH.set(Watch { limit: sweep_limit, ..IDLE });
+    WATCH.set(Watch {
+        limit: sweep_limit,
+        ..IDLE
+    });
 }
 
 pub fn sight() -> Sight {
     let w = WATCH.get();
-    Sight { rotations: w.rotations, other_zeros: w.other_zeros }
+    Sight {
+        rotations: w.rotations,
+        other_zeros: w.other_zeros,
+    }
 }
 
 impl Watch {

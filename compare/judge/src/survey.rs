@@ -10,7 +10,7 @@ use crate::problem::{Ending, Problem};
 use crate::random::Random;
 use crate::words::words;
 
-/// The places left over when a list has been drawn.
+/// A list that covers so many places, blocks of size 0 among them.
 fn blocks(random: &mut Random, mut places: usize) -> Vec<Block> {
     let mut list = Vec::new();
     while places > 0 || random.one_in(6) {
@@ -65,14 +65,42 @@ fn solvable(random: &mut Random, p: &mut Problem) {
     assert_eq!((p.b.len(), p.c.len()), (m, n));
 }
 
+/// Nonnegative rows, the second the opposite of the first with too little room between them.
+fn contradictory(random: &mut Random, p: &mut Problem) {
+    let (m, n) = p.a_type.size();
+    if matches!(p.a_type, MatType::General(2.., _)) {
+        p.blocks = vec![Block {
+            kind: Kind::Nonnegative,
+            size: m,
+        }];
+        for col in 0..n {
+            p.a[col * m + 1] = -p.a[col * m];
+        }
+        p.b[1] = -p.b[0] - random.within(1, 5) as f64;
+    }
+}
+
 /// Problems of n and m up to `most`.
 pub fn draw(random: &mut Random, most: usize) -> Problem {
     let packed = random.one_in(3);
     let m = random.within(0, most);
     let n = if packed { m } else { random.within(0, most) };
-    let a_type = if packed { MatType::SymPack(m) } else { MatType::General(m, n) };
+    let a_type = if packed {
+        MatType::SymPack(m)
+    } else {
+        MatType::General(m, n)
+    };
     let blocks = blocks(random, m);
-    let sort = random.pick(&[Sort::Whole, Sort::Whole, Sort::Whole, Sort::Ordinary, Sort::Ordinary, Sort::Tiny, Sort::Huge, Sort::Zeros]);
+    let sort = random.pick(&[
+        Sort::Whole,
+        Sort::Whole,
+        Sort::Whole,
+        Sort::Ordinary,
+        Sort::Ordinary,
+        Sort::Tiny,
+        Sort::Huge,
+        Sort::Zeros,
+    ]);
     let mut p = Problem {
         a_type,
         c: numbers(random, sort, n),
@@ -81,12 +109,14 @@ pub fn draw(random: &mut Random, most: usize) -> Problem {
         blocks,
         max_iter: random.pick(&[0, 1, 2, 3, 10, 100, 1000, 1000, 10_000]),
         sweep_limit: random.pick(&[1, 2, 3, 5, 10, 64, 64, 64, 64]),
-        eps_acc: random.pick(&[1e-6, 1e-6, 1e-3, 1e-9, 0.0, 0.5, -1.0]),
-        eps_inf: random.pick(&[1e-6, 1e-6, 1e-3, 1e-9, 0.0, 0.5, -1.0]),
+        eps_acc: random.pick(&[1e-6, 1e-6, 1e-6, 1e-3, 1e-3, 1e-9, 0.5, 0.0, -1.0]),
+        eps_inf: random.pick(&[1e-6, 1e-6, 1e-6, 1e-3, 1e-3, 1e-9, 0.5, 0.0, -1.0]),
         eps_zero: random.pick(&[1e-12, 1e-12, 1e-12, 1e-6, 1e-3, 0.0]),
     };
     if random.one_in(2) {
         solvable(random, &mut p);
+    } else if random.one_in(2) {
+        contradictory(random, &mut p);
     }
     p
 }

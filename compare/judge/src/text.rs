@@ -13,7 +13,11 @@ struct Reader<'a> {
 
 impl<'a> Reader<'a> {
     fn next(&mut self, what: &str) -> Result<&'a str, String> {
-        let word = self.words.get(self.at).copied().ok_or(format!("no {what}"))?;
+        let word = self
+            .words
+            .get(self.at)
+            .copied()
+            .ok_or(format!("no {what}"))?;
         self.at += 1;
         Ok(word)
     }
@@ -45,15 +49,24 @@ impl<'a> Reader<'a> {
 /// Packed flag, n, m, number of cone words, the words, max_iter, sweep limit, eps_acc, eps_inf,
 /// eps_zero, c, A, b.
 pub fn read(text: &str) -> Result<Problem, String> {
-    let lines = text.lines().map(|line| line.split('#').next().unwrap_or(""));
-    let mut from = Reader { words: lines.flat_map(str::split_whitespace).collect(), at: 0 };
+    let lines = text
+        .lines()
+        .map(|line| line.split('#').next().unwrap_or(""));
+    let mut from = Reader {
+        words: lines.flat_map(str::split_whitespace).collect(),
+        at: 0,
+    };
 
     let packed = from.whole("packed flag")? != 0;
     let (n, m) = (from.whole("n")?, from.whole("m")?);
     if packed && n != m {
         return Err("packed, and m is not n".into());
     }
-    let a_type = if packed { MatType::SymPack(n) } else { MatType::General(m, n) };
+    let a_type = if packed {
+        MatType::SymPack(n)
+    } else {
+        MatType::General(m, n)
+    };
     let mut blocks = Vec::new();
     for _ in 0..from.whole("number of cone words")? {
         let word = from.whole("cone word")?;
@@ -86,7 +99,12 @@ pub fn read(text: &str) -> Result<Problem, String> {
 
 /// The ending's name, k and q; its criteria, or the failed block; then x and y, one a line.
 pub fn write(problem: &Problem, answer: &Answer) -> String {
-    let mut lines = vec![format!("{} {} {}", answer.ending.name(), answer.k, answer.q)];
+    let mut lines = vec![format!(
+        "{} {} {}",
+        answer.ending.name(),
+        answer.k,
+        answer.q
+    )];
     match answer.ending {
         Ending::ConeFailure(block) => lines.push(format!("block {block}")),
         _ => {
@@ -97,7 +115,10 @@ pub fn write(problem: &Problem, answer: &Answer) -> String {
     }
     let (x, rest) = answer.work.split_at(problem.n());
     for (name, part) in [("x", x), ("y", &rest[..problem.m()])] {
-        lines.extend(part.iter().map(|v| format!("{name} {:016x} {v:e}", word(*v))));
+        lines.extend(
+            part.iter()
+                .map(|v| format!("{name} {:016x} {v:e}", word(*v))),
+        );
     }
     lines.join("\n") + "\n"
 }

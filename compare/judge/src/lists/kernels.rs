@@ -48,7 +48,9 @@ const NAMES: [(u64, &str); 17] = [
 ];
 
 /// Lengths around every unrolling.
-const LENGTHS: [usize; 18] = [0, 1, 2, 3, 4, 5, 6, 7, 8, 9, 15, 16, 17, 31, 32, 33, 64, 100];
+const LENGTHS: [usize; 18] = [
+    0, 1, 2, 3, 4, 5, 6, 7, 8, 9, 15, 16, 17, 31, 32, 33, 64, 100,
+];
 
 const SHAPES: [(usize, usize); 30] = [
     (0, 0),
@@ -121,10 +123,19 @@ fn vectors(records: &mut Records, random: &mut Random, n: usize, sort: Sort) {
     let alpha = factor(random);
     records.push(SCALE, &[n], &[&[alpha], &x], &ask::scale(alpha, x.clone()));
 
-    let other = if random.one_in(2) { sort } else { random.pick(&SORTS) };
+    let other = if random.one_in(2) {
+        sort
+    } else {
+        random.pick(&SORTS)
+    };
     let y = numbers(random, other, n);
     let alpha = factor(random);
-    records.push(ADD, &[n], &[&[alpha], &x, &y], &ask::add(alpha, &x, y.clone()));
+    records.push(
+        ADD,
+        &[n],
+        &[&[alpha], &x, &y],
+        &ask::add(alpha, &x, y.clone()),
+    );
 
     let s = factor(random);
     records.push(ADDS, &[n], &[&[s], &y], &ask::adds(s, y.clone()));
@@ -153,8 +164,16 @@ fn transforms(records: &mut Records, random: &mut Random, typ: MatType, sort: So
     let (rows, cols) = typ.size();
     let mat = numbers(random, sort, typ.len());
     for transpose in [false, true] {
-        let (x_len, y_len) = if transpose { (rows, cols) } else { (cols, rows) };
-        let other = if random.one_in(2) { sort } else { random.pick(&SORTS) };
+        let (x_len, y_len) = if transpose {
+            (rows, cols)
+        } else {
+            (cols, rows)
+        };
+        let other = if random.one_in(2) {
+            sort
+        } else {
+            random.pick(&SORTS)
+        };
         let x = numbers(random, sort, x_len);
         let y = numbers(random, other, y_len);
         let (alpha, beta) = (factor(random), factor(random));
@@ -182,7 +201,8 @@ fn transform(
 
     match typ {
         MatType::General(rows, cols) => {
-            let answer = ask::transform_ge(transpose, (rows, cols), alpha, mat, x, beta, y.to_vec());
+            let answer =
+                ask::transform_ge(transpose, (rows, cols), alpha, mat, x, beta, y.to_vec());
             let sizes = [usize::from(transpose), rows, cols];
             records.push(TRANSFORM_GE, &sizes, &numbers, &answer);
         }
@@ -198,7 +218,11 @@ fn transform(
 fn matrix_sums(records: &mut Records, random: &mut Random, typ: MatType, sort: Sort) {
     let (rows, cols) = typ.size();
     let mat = numbers(random, sort, typ.len());
-    let other = if random.one_in(2) { sort } else { random.pick(&SORTS) };
+    let other = if random.one_in(2) {
+        sort
+    } else {
+        random.pick(&SORTS)
+    };
     let by_column = numbers(random, other, cols);
     let by_row = numbers(random, other, rows);
     let packed = matches!(typ, MatType::SymPack(_));
@@ -226,7 +250,12 @@ fn zero_factors(records: &mut Records) {
             for y in [-5.0, -0.0, 0.0, f64::NAN, f64::INFINITY, f64::NEG_INFINITY] {
                 for (mat, x) in [(1.0, 1.0), (-1.0, 1.0), (0.0, -1.0), (-1e-200, 1e-200)] {
                     let answer = ask::transform_di(alpha, &[mat], &[x], beta, vec![y]);
-                    records.push(TRANSFORM_DI, &[1], &[&[alpha, beta], &[mat], &[x], &[y]], &answer);
+                    records.push(
+                        TRANSFORM_DI,
+                        &[1],
+                        &[&[alpha, beta], &[mat], &[x], &[y]],
+                        &answer,
+                    );
                     for typ in [MatType::General(1, 1), MatType::SymPack(1)] {
                         for transpose in [false, true] {
                             transform(records, transpose, typ, &[mat], &[x], &[y], alpha, beta);
@@ -257,7 +286,11 @@ fn helpers(records: &mut Records, random: &mut Random) {
     }
     for sort in SORTS {
         for _ in 0..60 {
-            let other = if random.one_in(2) { sort } else { random.pick(&SORTS) };
+            let other = if random.one_in(2) {
+                sort
+            } else {
+                random.pick(&SORTS)
+            };
             let (a, b) = (number(random, sort), number(random, other));
             pair(records, a, b);
             // Equal numbers, and the next one up.
@@ -266,7 +299,10 @@ fn helpers(records: &mut Records, random: &mut Random) {
         }
     }
     let special = SPECIAL.map(f64::from_bits);
-    let drawn: Vec<f64> = SORTS.iter().flat_map(|sort| numbers(random, *sort, 100)).collect();
+    let drawn: Vec<f64> = SORTS
+        .iter()
+        .flat_map(|sort| numbers(random, *sort, 100))
+        .collect();
     for x in special.into_iter().chain(drawn) {
         records.push(MAGNITUDE, &[], &[&[x]], &[ask::magnitude(x)]);
         records.push(RECIPROCAL, &[], &[&[x]], &[ask::reciprocal(x)]);
@@ -289,7 +325,14 @@ fn records(seed: u64) -> Records {
     let dense = SHAPES.map(|(rows, cols)| MatType::General(rows, cols));
     let packed = ORDERS.map(MatType::SymPack);
     for typ in dense.into_iter().chain(packed) {
-        for sort in [Sort::Ordinary, Sort::Whole, Sort::Tiny, Sort::Huge, Sort::Zeros, Sort::Mixed] {
+        for sort in [
+            Sort::Ordinary,
+            Sort::Whole,
+            Sort::Tiny,
+            Sort::Huge,
+            Sort::Zeros,
+            Sort::Mixed,
+        ] {
             transforms(&mut all, &mut random, typ, sort);
         }
         for sort in [Sort::Ordinary, Sort::Huge, Sort::Zeros, Sort::Mixed] {
@@ -307,15 +350,30 @@ pub fn make(seed: u64, path: &Path) -> std::io::Result<()> {
     let all = records(seed);
     let total = all.counts.values().sum();
     write_list(path, total, &all.words)?;
-    println!("kernels: {total} records, {} bytes", 8 + 8 * all.words.len());
+    println!(
+        "kernels: {total} records, {} bytes",
+        8 + 8 * all.words.len()
+    );
     for (code, name) in NAMES {
         println!("  {:6} {code:2} {name}", all.counts[&code]);
     }
     println!("left out of kernels:");
-    println!("  {:6} sums of an empty packed matrix: the original stops", all.stopped_packed);
-    println!("  {:6} row sums, no columns, two or more rows: the original stops", all.stopped_rows);
-    println!("  {:6} pairs of -0 and +0: a listed difference", all.zero_pairs);
-    println!("  {:6} pairs with a signalling NaN: the original's answer is not the rule's", all.signalling_pairs);
+    println!(
+        "  {:6} sums of an empty packed matrix: the original stops",
+        all.stopped_packed
+    );
+    println!(
+        "  {:6} row sums, no columns, two or more rows: the original stops",
+        all.stopped_rows
+    );
+    println!(
+        "  {:6} pairs of -0 and +0: a listed difference",
+        all.zero_pairs
+    );
+    println!(
+        "  {:6} pairs with a signalling NaN: the original's answer is not the rule's",
+        all.signalling_pairs
+    );
     Ok(())
 }
 
@@ -342,7 +400,13 @@ mod tests {
     /// No answer is a NaN of another pattern.
     #[test]
     fn answers_hold_one_nan() {
-        assert_eq!(crate::words::word(f64::from_bits(0xfff0000000000001)), crate::words::NAN);
-        assert_eq!(words(&ask::scale(1.0, vec![f64::from_bits(0xfff8000000000003)])), [crate::words::NAN]);
+        assert_eq!(
+            crate::words::word(f64::from_bits(0xfff0000000000001)),
+            crate::words::NAN
+        );
+        assert_eq!(
+            words(&ask::scale(1.0, vec![f64::from_bits(0xfff8000000000003)])),
+            [crate::words::NAN]
+        );
     }
 }

@@ -53,7 +53,13 @@ fn roots_modulo(a: i64, bits: u32) -> [u64; 4] {
         }
     }
     let half = 1u64 << (bits - 1);
-    [q, q.wrapping_neg(), q.wrapping_add(half), q.wrapping_neg().wrapping_add(half)].map(|q| q & mask)
+    [
+        q,
+        q.wrapping_neg(),
+        q.wrapping_add(half),
+        q.wrapping_neg().wrapping_add(half),
+    ]
+    .map(|q| q & mask)
 }
 
 /// The x whose root lies nearest a midpoint between two numbers. With Q odd of 54 bits, Q/2 is
@@ -88,7 +94,11 @@ fn beside_midpoints(drawn: &mut Drawn, random: &mut Random) {
 
 fn patterns(seed: u64) -> Drawn {
     let mut random = Random::new(seed);
-    let mut drawn = Drawn { patterns: Vec::new(), known: HashSet::new(), counts: Vec::new() };
+    let mut drawn = Drawn {
+        patterns: Vec::new(),
+        known: HashSet::new(),
+        counts: Vec::new(),
+    };
     let digits = (1u64 << 52) - 1;
     let sign = 1u64 << 63;
     let infinity = 0x7ff0000000000000u64;
@@ -102,11 +112,19 @@ fn patterns(seed: u64) -> Drawn {
     }
     drawn.end_group("zeros, infinities, NaN");
 
-    for x in [1, 2, digits, 1 << 52, 0x3ff0000000000000, 0x4000000000000000, 0x7fefffffffffffff] {
+    for x in [
+        1,
+        2,
+        digits,
+        1 << 52,
+        0x3ff0000000000000,
+        0x4000000000000000,
+        0x7fefffffffffffff,
+    ] {
         drawn.push(sign | x);
     }
     for _ in 0..40 {
-        drawn.push(sign | random.word() % infinity);
+        drawn.push(sign | (random.word() % infinity));
     }
     drawn.end_group("below zero");
 
@@ -172,7 +190,11 @@ pub fn make(seed: u64, path: &Path) -> std::io::Result<()> {
         words.push(word(root(x)));
     }
     write_list(path, drawn.patterns.len(), &words)?;
-    println!("roots: {} records, {} bytes", drawn.patterns.len(), 8 + 8 * words.len());
+    println!(
+        "roots: {} records, {} bytes",
+        drawn.patterns.len(),
+        8 + 8 * words.len()
+    );
     for (name, count) in &drawn.counts {
         println!("  {count:6} {name}");
     }
@@ -223,7 +245,11 @@ mod tests {
 
     #[test]
     fn some_roots_are_very_near_a_midpoint() {
-        let mut drawn = Drawn { patterns: Vec::new(), known: HashSet::new(), counts: Vec::new() };
+        let mut drawn = Drawn {
+            patterns: Vec::new(),
+            known: HashSet::new(),
+            counts: Vec::new(),
+        };
         beside_midpoints(&mut drawn, &mut Random::new(1));
         let hair = drawn.counts[0].1;
         assert!(hair > 500);

@@ -188,7 +188,7 @@ pub fn proj<F: Number>(
     }
 }
 
-/// The eigenvalue map of the semidefinite cone without its scaling of the diagonal.
+/// The kernel below the semidefinite cone, with the cone's own map: eigenvalues above 0 stay.
 pub fn map_eig<F: Number>(
     mat: &mut [F],
     scale_diag: Option<F>,

@@ -198,6 +198,19 @@ fn semidefinite_sweep_limit() {
     assert_eq!((outcome, rotations), (Err(()), 3));
 }
 
+/// The cone adds to the kernel the scaling by the root of 2, and nothing else.
+#[test]
+fn semidefinite_is_the_eigenvalue_map() {
+    let x = [1.0, 2.0, -3.0, 4.0, 5.0, 6.0];
+    let (_, projected, rotations) = semidefinite(&x, 64);
+    let mut mapped = x.map(Seen);
+    watch(64);
+    let scale = Some(Seen(ask::root(2.0)));
+    ask::map_eig(&mut mapped, scale, Seen(1e-12), &mut [Seen(0.0); 12]).unwrap();
+    assert_eq!(words(&mapped.map(|v| v.0)), words(&projected));
+    assert_eq!(sight().rotations, rotations);
+}
+
 /// The original was still rotating this one after a million sweeps; the limit ends it.
 #[test]
 fn endless_sweeps_are_cut_off() {

@@ -16,4 +16,5 @@ pub mod Prepare
 pub mod Criteria
 pub mod Run
 pub mod Refusals
+pub mod Demands
 pub mod WorkedByHand

@@ -8,7 +8,7 @@ use Rattle.rules.specs.Root.{root}
 use Rattle.rules.specs.Arithmetic.{_+ᶠ_, _*ᶠ_, +0, at, each}
 use Rattle.rules.specs.Vectors.{norm, scaled, added, shifted}
 use Rattle.rules.specs.Matrices.{opped, absaddedCols, absaddedRows}
-use Rattle.rules.specs.Product.{groupAll}
+use Rattle.rules.specs.Product.{groupAll, coneWork}
 use Rattle.rules.specs.Problem.{Problem, matrix, column, blocks, lengthX, lengthY}
 use Rattle.rules.specs.Step.{State, xX, xY, xS, xTau}
 
@@ -90,9 +90,9 @@ dpSigmaOf p tau =
     diagonal (p .par .«eps_zero») (sumsX p t ++ added one (sumsS p t) (sumsY p t) ++ sumsTau p t)
 
 -- "On acceptance the required part of both buffers becomes +0", and then the run is prepared.
-unfoldable pub prepared : Problem → List Float → State
-unfolding startX dpTauOf dpSigmaOf scaled
-prepared p cone =
+unfoldable pub prepared : Problem → State
+unfolding startX dpTauOf dpSigmaOf scaled coneWork
+prepared p =
     let longX = zeros (lengthX (p .m) (p .n)) in
     let longY = zeros (lengthY (p .m) (p .n)) in
     record {
@@ -102,7 +102,7 @@ prepared p cone =
       dpSigma = dpSigmaOf p longX;
       rx = longX;
       tx = longX;
-      cone = cone;
+      cone = zeros (coneWork (blocks p));
     }
 
 abbrev pub preparedNorms : Problem → Norms

@@ -117,5 +117,5 @@ unfoldable pub solved : Problem → List Float → List Float → Left
 unfolding refusal readProblem run leftBy
 solved p work cone =
     let q = readProblem p in
-    let ran = leftBy q work cone (run q cone) in
+    let ran = leftBy q work cone (run q) in
     leftAfter (refusal p (length work) (length cone)) ran work cone

@@ -119,28 +119,25 @@ finalX p e x =
 abbrev pub laidOut : Problem → Ending → State → List Float
 laidOut p e s = finalX p e (s .x) ++ s .y ++ s .dpTau ++ s .dpSigma ++ s .rx ++ s .tx
 
--- What an accepted run leaves. "ConeFailure: required part of both buffers +0"
+-- "On acceptance the required part of both buffers becomes +0": the run starts from that, whatever the buffers held.
+unfoldable pub run : Problem → Ended
+unfolding runFrom prepared norms
+run p = runFrom (allowance (p .par)) p (preparedNorms p) 1 0 (prepared p)
+
+-- What an accepted run leaves. "ConeFailure: required part of both buffers +0"; "places beyond it are never changed".
 pub record Left : Type 0 where
   pub answer : Answer
   pub work : List Float
   pub cone : List Float
 
 unfoldable pub leftBy : Problem → List Float → List Float → Ended → Left
-unfolding finalX
+unfolding finalX coneWork
 leftBy p work cone e =
     let required = workLength (p .m) (p .n) in
     let needed = coneWork (blocks p) in
-    let zeroed = zeros required ++ drop required work in
-    let used = laidOut p (e .ending) (e .state) ++ drop required work in
+    let laid = laidOut p (e .ending) (e .state) in
     record {
       answer = record { ending = e .ending; steps = e .steps; rotations = e .rotations };
-      work = cond (isConeFailure (e .ending)) zeroed used;
-      cone = cond (isConeFailure (e .ending)) (zeros needed ++ drop needed cone) (e .state .cone);
+      work = cond (isConeFailure (e .ending)) (zeros required) laid ++ drop required work;
+      cone = cond (isConeFailure (e .ending)) (zeros needed) (e .state .cone) ++ drop needed cone;
     }
-
--- "On acceptance the required part of both buffers becomes +0; places beyond it are never changed."
-unfoldable pub run : Problem → List Float → Ended
-unfolding runFrom prepared norms coneWork
-run p cone =
-    let needed = coneWork (blocks p) in
-    runFrom (allowance (p .par)) p (preparedNorms p) 1 0 (prepared p (zeros needed ++ drop needed cone))

@@ -5,5 +5,7 @@ pub mod RootPatterns
 pub mod Arithmetic
 pub mod Columns
 pub mod Jacobi
+pub mod Run
+pub mod Converged
 pub mod Outcome
 pub mod WorkedByHand

@@ -102,6 +102,7 @@ converged-exactly p = record { exactly = λ pri dual gap. (there pri dual gap, b
           dual-small = three .1;
           gap-small = three .2;
         }
+
     back : (pri dual gap : Float) → ConvergedTest p (step p (run p .steps)) pri dual gap → run p .ending ≡ Converged pri dual gap
     back pri dual gap t =
         let v = passed (p .par) (run p .steps) (step p (run p .steps) .failure) (step p (run p .steps) .criteria) pri dual gap (t .no-cone-failed) (t .criteria-are) (t .primal-small) (t .dual-small) (t .gap-small) in

@@ -7,5 +7,7 @@ pub mod Columns
 pub mod Jacobi
 pub mod Run
 pub mod Converged
+pub mod Refusals
+pub mod Rotations
 pub mod Outcome
 pub mod WorkedByHand

@@ -85,8 +85,8 @@ gone-on-more {p} {j} {q} g e =
     record {
       counts = rw (rotations-more p j, g .counts);
       on = λ k l h.
-        by-less k (suc j) (λ b. g .on k l (omega arith))
-        (λ b.
+          by-less k (suc j) (λ b. g .on k l (omega arith))
+          (λ b.
           let same : k ≡ suc j = omega arith in
           rw same e);
     }
@@ -110,8 +110,8 @@ ends-from p (suc left) j q is before g =
     rw (run-more p (preparedNorms p) left (suc j) q (stateAfter p j) (step p (suc j)) (step-is p j))
     (ends-or-on p left j q g before
     (λ e.
-      rw (add-one (suc j), ← state-more p j)
-      (ends-from p left (suc j) (q + step p (suc j) .rotations) (omega arith) (goes-on-exactly p (suc j) (step p (suc j) .failure) (step p (suc j) .criteria) .exactly .0 e .2) (gone-on-more g e)))
+    rw (add-one (suc j), ← state-more p j)
+    (ends-from p left (suc j) (q + step p (suc j) .rotations) (omega arith) (goes-on-exactly p (suc j) (step p (suc j) .failure) (step p (suc j) .criteria) .exactly .0 e .2) (gone-on-more g e)))
     (verdictAt p (suc j)) refl)
 
 pub ends-first : (p : Problem) → EndsFirst p (run p)

@@ -9,5 +9,6 @@ pub mod Run
 pub mod Converged
 pub mod Refusals
 pub mod Rotations
+pub mod KernelLengths
 pub mod Outcome
 pub mod WorkedByHand

@@ -12,7 +12,6 @@ use Rattle.rules.specs.declared.Cone.the-variants.{Zero, RPos, SOC, RotS
 use Rattle.rules.specs.declared.SolverParam.{SolverParam}
 use Rattle.rules.specs.Arithmetic.{_*ᶠ_}
 use Rattle.rules.specs.Blocks.{places}
-use Rattle.rules.specs.Jacobi.{Turning, Swept, sweeps}
 use Rattle.rules.specs.Projections.{Projected, √2, diagonalTimes, unit, projPSD, projBlock}
 use Rattle.rules.specs.Product.{Passed, projAll, oneLater, block, isNone}
 use Rattle.rules.specs.Problem.{Problem, blocks}
@@ -21,6 +20,7 @@ use Rattle.rules.specs.Prepare.{Norms, preparedNorms}
 use Rattle.rules.specs.Run.{turn, run}
 use Rattle.rules.specs.Demands.{stateAfter, step, rotationsUpTo, pairsTwice, allPairsTwice, RotationsBounded}
 use Rattle.rules.proofs.Jacobi.{rotations-bounded}
+use Rattle.rules.proofs.KernelLengths.{swept}
 use Rattle.rules.proofs.Run.{ends-first}
 
 -- ---- a block
@@ -29,11 +29,6 @@ half-pairs : (limit pairs : ℕ) → 2 * (limit * (pairs / 2)) ≤ limit * pairs
 half-pairs limit pairs =
     let h : pairs / 2 + pairs / 2 ≤ pairs = omega arith in
     omega (arith, mul-le-mul-left limit h, mul-add limit (pairs / 2) (pairs / 2))
-
--- Jacobi's method on a block
-abbrev swept : SolverParam → ℕ → List Float → Swept
-swept par d x =
-    sweeps d (par .«eps_zero» *ᶠ par .«eps_zero») (par .«sweep_limit») (record { matrix = diagonalTimes √2 d x; vectors = unit d; rotations = 0 })
 
 psd-rotations : (par : SolverParam) (d : ℕ) (x work : List Float) → projPSD par d x work .rotations ≡ swept par d x .turning .rotations
 unfolding projPSD

@@ -10,5 +10,6 @@ pub mod Converged
 pub mod Refusals
 pub mod Rotations
 pub mod KernelLengths
+pub mod Lengths
 pub mod Outcome
 pub mod WorkedByHand

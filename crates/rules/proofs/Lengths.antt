@@ -7,18 +7,20 @@ use mathlib.Core.List.{List, [], _∷_, _++_}
 use lib.Ieee.{Float, lt, neg}
 use lib.ListN.{length, take, drop, set, length-append, length-take, length-drop, length-set, length-replicate}
 use lib.Seq.{length-take-le}
-use Rattle.rules.specs.Helpers.{one, smaller}
+use Rattle.rules.specs.Helpers.{one, smaller, reciprocal}
 use Rattle.rules.specs.Arithmetic.{_-ᶠ_, +0, at}
 use Rattle.rules.specs.Vectors.{scaled, added, transformedDi}
-use Rattle.rules.specs.Matrices.{storedLength}
+use Rattle.rules.specs.Matrices.{storedLength, absaddedCols, absaddedRows}
 use Rattle.rules.specs.Blocks.{totalPlaces}
-use Rattle.rules.specs.Product.{Passed, isNone, projAll, coneWork}
+use Rattle.rules.specs.Product.{Passed, isNone, projAll, groupAll, coneWork}
 use Rattle.rules.specs.Problem.{Problem, matrix, column, blocks, lengthX, lengthY, workLength}
 use Rattle.rules.specs.Step.{State, part, aOp, aTrans, bOp, bTrans, cOp, cTrans, xX, xY, xS, xTau, yN, yM, y1, opN, opM, op1, opK, transX, transY, transS, transTau, transOpK, movedX, projected, tauTaken, movedY, updated}
-use Rattle.rules.specs.Criteria.{tauOf, primalResidual, dualResidual, ray, dualRay, judged}
-use Rattle.rules.specs.Prepare.{Norms, zeros, columnIn, withB, withC, startX, sumsX, sumsY, sumsS, sumsTau, groupedX, dpTauOf, dpSigmaOf, prepared, preparedNorms}
-use Rattle.rules.specs.Run.{turn}
+use Rattle.rules.specs.Criteria.{tauOf, withResiduals, primalResidual, dualResidual, ray, dualRay, judged}
+use Rattle.rules.specs.Prepare.{Norms, zeros, diagonal, columnIn, withB, withC, startX, sumsX, sumsY, sumsS, sumsTau, groupedX, dpTauOf, dpSigmaOf, prepared, preparedNorms}
+use Rattle.rules.specs.Run.{turn, run}
+use Rattle.rules.specs.Demands.{stateAfter}
 use Rattle.rules.proofs.KernelLengths.{part-length, scaled-length, added-length, shifted-length, transformedDi-length, diagonal-length, opped-length, transOpped-length, absaddedCols-length, absaddedRows-length, groupAll-length, PassKeeps, pass-keeps}
+use Rattle.rules.proofs.Run.{ends-first}
 
 -- ---- the sizes
 
@@ -194,3 +196,170 @@ updated-sized p s fit h =
     let k : ProjectedSized p q = projected-sized p (s' .x) (s' .cone) fit (h' .x) (h' .cone) in
     movedY-sized p (record { x = tauTaken p (q .cone); y = s' .y; dpTau = s' .dpTau; dpSigma = s' .dpSigma; rx = s' .rx; tx = s' .tx; cone = q .work })
     (record { x = tauTaken-length p (q .cone) ∙ k .x; y = h' .y; dpTau = h' .dpTau; dpSigma = h' .dpSigma; rx = h' .rx; tx = h' .tx; cone = k .cone })
+
+-- ---- the criteria
+
+module _ (p : Problem) (x : List Float) where
+  primalResidual-length : length (primalResidual p x) ≡ length (xS p x)
+  unfolding primalResidual
+  primalResidual-length =
+      let scale = reciprocal (tauOf p x) in
+      opped-length (matrix p) scale (p .a) (xX p x) one (bOp p (neg one) (one ∷ []) scale (xS p x))
+      ∙ opped-length (column (p .m)) (neg one) (p .b) (one ∷ []) scale (xS p x)
+
+  dualResidual-length : (d : List Float) → length (dualResidual p x d) ≡ length d
+  unfolding dualResidual
+  dualResidual-length d =
+      transOpped-length (matrix p) (reciprocal (tauOf p x)) (p .a) (xY p x) one (cOp p one (one ∷ []) +0 d)
+      ∙ opped-length (column (p .n)) one (p .c) (one ∷ []) +0 d
+
+  ray-length : length (ray p x) ≡ length (xS p x)
+  unfolding ray
+  ray-length = opped-length (matrix p) one (p .a) (xX p x) one (xS p x)
+
+  dualRay-length : (d : List Float) → length (dualRay p x d) ≡ length d
+  unfolding dualRay
+  dualRay-length d = transOpped-length (matrix p) one (p .a) (xY p x) +0 d
+
+-- p and d stand at the front of rx
+pub withResiduals-length : (pri dual : List Float) (p : Problem) (rx : List Float) → length pri ≡ p .m → length dual ≡ p .n → length rx ≡ lengthX (p .m) (p .n) → length (withResiduals pri dual p rx) ≡ lengthX (p .m) (p .n)
+withResiduals-length pri dual p rx hp hd h = simp (length-append, length-drop) (omega arith)
+
+pub judged-length : (p : Problem) (ns : Norms) (x rx : List Float) → length x ≡ lengthX (p .m) (p .n) → length rx ≡ lengthX (p .m) (p .n) → length (judged p ns x rx .rx) ≡ lengthX (p .m) (p .n)
+unfolding judged
+judged-length p ns x rx h k = go (lt (p .par .«eps_zero») (tauOf p x)) refl
+  where
+    d : List Float
+    d = part (p .m) (p .n) rx
+    d-length : length d ≡ p .n
+    d-length = part-length (p .m) (p .n) rx (omega arith)
+    go : (t : Bool) → lt (p .par .«eps_zero») (tauOf p x) ≡ t → length (judged p ns x rx .rx) ≡ lengthX (p .m) (p .n)
+    go true e =
+        rw e
+        (withResiduals-length (primalResidual p x) (dualResidual p x d) p rx (primalResidual-length p x ∙ xS-length p x h) (dualResidual-length p x d ∙ d-length) k)
+    go false e =
+        rw e
+        (withResiduals-length (ray p x) (dualRay p x d) p rx (ray-length p x ∙ xS-length p x h) (dualRay-length p x d ∙ d-length) k)
+
+-- ---- a whole step
+
+pub turn-sized : (p : Problem) (ns : Norms) (s : State) → Fitting p → Sized p s → Sized p (turn p ns s .state)
+unfolding turn
+turn-sized p ns s fit h =
+    let v = updated p s .state in
+    let k : Sized p v = updated-sized p s fit h in
+    record {
+      x = k .x;
+      y = k .y;
+      dpTau = k .dpTau;
+      dpSigma = k .dpSigma;
+      rx = judged-length p ns (v .x) (v .rx) (k .x) (k .rx);
+      tx = k .tx;
+      cone = k .cone;
+    }
+
+-- ---- what stands before the first step
+
+columnIn-length : (rows : ℕ) (v t : List Float) → length (columnIn rows v t) ≡ length t
+unfolding columnIn
+columnIn-length rows v t = opped-length (column rows) one v (one ∷ []) +0 t
+
+pub withB-length : (p : Problem) (x : List Float) → length (withB p x) ≡ length x
+unfolding withB
+withB-length p x =
+    length-append (columnIn (p .m) (p .b) (take (p .m) x)) (drop (p .m) x)
+    ∙ omega (arith, columnIn-length (p .m) (p .b) (take (p .m) x), length-take (p .m) x, length-drop (p .m) x)
+
+pub withC-length : (p : Problem) (x : List Float) → length (withC p x) ≡ length x
+unfolding withC
+withC-length p x =
+    length-append (columnIn (p .n) (p .c) (take (p .n) x)) (drop (p .n) x)
+    ∙ omega (arith, columnIn-length (p .n) (p .c) (take (p .n) x), length-take (p .n) x, length-drop (p .n) x)
+
+pub startX-length : (p : Problem) (x : List Float) → length (startX p x) ≡ length x
+unfolding startX
+startX-length p x =
+    length-set (scaled +0 (withC p (withB p x))) (p .n + p .m + p .m) one
+    ∙ scaled-length +0 (withC p (withB p x))
+    ∙ withC-length p (withB p x)
+    ∙ withB-length p x
+
+module _ (p : Problem) (t : List Float) (h : length t ≡ lengthX (p .m) (p .n)) where
+  pub sumsX-length : length (sumsX p t) ≡ p .n
+  unfolding sumsX
+  sumsX-length =
+      absaddedRows-length (column (p .n)) (p .c) (absaddedCols (matrix p) (p .a) (xX p t))
+      ∙ absaddedCols-length (matrix p) (p .a) (xX p t)
+      ∙ xX-length p t h
+
+  pub sumsY-length : length (sumsY p t) ≡ p .m
+  unfolding sumsY
+  sumsY-length =
+      absaddedRows-length (column (p .m)) (p .b) (absaddedRows (matrix p) (p .a) (xY p t))
+      ∙ absaddedRows-length (matrix p) (p .a) (xY p t)
+      ∙ xY-length p t h
+
+  pub sumsS-length : length (sumsS p t) ≡ p .m
+  unfolding sumsS
+  sumsS-length = shifted-length one (xS p t) ∙ xS-length p t h
+
+  pub sumsTau-length : length (sumsTau p t) ≡ 1
+  unfolding sumsTau
+  sumsTau-length =
+      absaddedCols-length (column (p .m)) (p .b) (absaddedCols (column (p .n)) (p .c) (xTau p t))
+      ∙ absaddedCols-length (column (p .n)) (p .c) (xTau p t)
+      ∙ xTau-length p t h
+
+pub groupedX-length : (p : Problem) (d : List Float) → length d ≡ lengthX (p .m) (p .n) → length (groupedX p d) ≡ lengthX (p .m) (p .n)
+unfolding groupedX
+groupedX-length p d h =
+    length-append (xX p d ++ groupAll (blocks p) (xY p d) ++ groupAll (blocks p) (xS p d)) (xTau p d)
+    ∙ omega (arith, length-append (xX p d ++ groupAll (blocks p) (xY p d)) (groupAll (blocks p) (xS p d)), length-append (xX p d) (groupAll (blocks p) (xY p d)), groupAll-length (blocks p) (xY p d), groupAll-length (blocks p) (xS p d), xX-length p d h, xY-length p d h, xS-length p d h, xTau-length p d h)
+
+pub dpTauOf-length : (p : Problem) (tau : List Float) → length tau ≡ lengthX (p .m) (p .n) → length (dpTauOf p tau) ≡ lengthX (p .m) (p .n)
+unfolding dpTauOf
+dpTauOf-length p tau h =
+    let t = scaled +0 tau in
+    let k : length t ≡ lengthX (p .m) (p .n) = scaled-length +0 tau ∙ h in
+    let sums = sumsX p t ++ sumsY p t ++ sumsS p t ++ sumsTau p t in
+    let l : length sums ≡ lengthX (p .m) (p .n) =
+    length-append (sumsX p t ++ sumsY p t ++ sumsS p t) (sumsTau p t)
+    ∙ omega (arith, length-append (sumsX p t ++ sumsY p t) (sumsS p t), length-append (sumsX p t) (sumsY p t), sumsX-length p t k, sumsY-length p t k, sumsS-length p t k, sumsTau-length p t k) in
+    groupedX-length p (diagonal (p .par .«eps_zero») sums) (diagonal-length (p .par .«eps_zero») sums ∙ l)
+
+pub dpSigmaOf-length : (p : Problem) (tau : List Float) → length tau ≡ lengthX (p .m) (p .n) → length (dpSigmaOf p tau) ≡ lengthY (p .m) (p .n)
+unfolding dpSigmaOf
+dpSigmaOf-length p tau h =
+    let t = scaled +0 tau in
+    let k : length t ≡ lengthX (p .m) (p .n) = scaled-length +0 tau ∙ h in
+    let middle = added one (sumsS p t) (sumsY p t) in
+    diagonal-length (p .par .«eps_zero») (sumsX p t ++ middle ++ sumsTau p t)
+    ∙ length-append (sumsX p t ++ middle) (sumsTau p t)
+    ∙ omega (arith, length-append (sumsX p t) middle, added-length one (sumsS p t) (sumsY p t), sumsX-length p t k, sumsY-length p t k, sumsTau-length p t k)
+
+pub prepared-sized : (p : Problem) → Sized p (prepared p)
+unfolding prepared
+prepared-sized p =
+    let longX = zeros (lengthX (p .m) (p .n)) in
+    let longY = zeros (lengthY (p .m) (p .n)) in
+    let hx : length longX ≡ lengthX (p .m) (p .n) = length-replicate (lengthX (p .m) (p .n)) +0 in
+    let hy : length longY ≡ lengthY (p .m) (p .n) = length-replicate (lengthY (p .m) (p .n)) +0 in
+    record {
+      x = startX-length p longX ∙ hx;
+      y = scaled-length +0 longY ∙ hy;
+      dpTau = dpTauOf-length p longX hx;
+      dpSigma = dpSigmaOf-length p longX hx;
+      rx = hx;
+      tx = hx;
+      cone = length-replicate (coneWork (blocks p)) +0;
+    }
+
+-- ---- all the steps
+
+pub states-sized : (p : Problem) → Fitting p → (k : ℕ) → Sized p (stateAfter p k)
+unfolding stateAfter
+states-sized p fit zero = prepared-sized p
+states-sized p fit (suc k) = turn-sized p (preparedNorms p) (stateAfter p k) fit (states-sized p fit k)
+
+pub run-sized : (p : Problem) → Fitting p → Sized p (run p .state)
+run-sized p fit = rw (ends-first p .state-there) (states-sized p fit (run p .steps))

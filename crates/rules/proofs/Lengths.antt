@@ -142,26 +142,36 @@ projected-sized p x cone fit h k = go (isNone (dual .failure)) refl
   where
     dual : Passed
     dual = projAll (p .par) true (blocks p) (xY p x) cone
+
     x' : List Float
     x' = xX p x ++ dual .cone ++ drop (p .n + p .m) x
+
     primal : Passed
     primal = projAll (p .par) false (blocks p) (xS p x') (dual .work)
+
     dual-keeps : PassKeeps (blocks p) (xY p x) cone dual
     dual-keeps = pass-keeps (p .par) true (blocks p) (xY p x) cone (omega (arith, xY-length p x h))
+
     dual-cone : length (dual .cone) ≡ p .m
     dual-cone = dual-keeps .cone ∙ xY-length p x h
+
     dual-work : length (dual .work) ≡ coneWork (blocks p)
     dual-work = dual-keeps .work (omega arith) ∙ k
+
     x'-length : length x' ≡ lengthX (p .m) (p .n)
     x'-length = simp (length-append, length-drop) (omega (arith, xX-length p x h, dual-cone))
+
     primal-keeps : PassKeeps (blocks p) (xS p x') (dual .work) primal
     primal-keeps = pass-keeps (p .par) false (blocks p) (xS p x') (dual .work) (omega (arith, xS-length p x' x'-length))
+
     primal-cone : length (primal .cone) ≡ p .m
     primal-cone = primal-keeps .cone ∙ xS-length p x' x'-length
+
     both-cone : length (take (p .n + p .m) x' ++ primal .cone ++ drop (p .n + p .m + p .m) x') ≡ lengthX (p .m) (p .n)
     both-cone =
         length-append (take (p .n + p .m) x' ++ primal .cone) (drop (p .n + p .m + p .m) x')
         ∙ omega (arith, length-append (take (p .n + p .m) x') (primal .cone), length-take (p .n + p .m) x', length-drop (p .n + p .m + p .m) x', x'-length, primal-cone)
+
     go : (t : Bool) → isNone (dual .failure) ≡ t → ProjectedSized p (projected p x cone)
     go true e = rw e (record { x = both-cone; cone = primal-keeps .work (omega (arith, dual-work)) ∙ dual-work })
     go false e = rw e (record { x = x'-length; cone = dual-work })
@@ -231,8 +241,10 @@ judged-length p ns x rx h k = go (lt (p .par .«eps_zero») (tauOf p x)) refl
   where
     d : List Float
     d = part (p .m) (p .n) rx
+
     d-length : length d ≡ p .n
     d-length = part-length (p .m) (p .n) rx (omega arith)
+
     go : (t : Bool) → lt (p .par .«eps_zero») (tauOf p x) ≡ t → length (judged p ns x rx .rx) ≡ lengthX (p .m) (p .n)
     go true e =
         rw e

@@ -11,5 +11,7 @@ pub mod Refusals
 pub mod Rotations
 pub mod KernelLengths
 pub mod Lengths
+pub mod Accepted
+pub mod OldContents
 pub mod Outcome
 pub mod WorkedByHand

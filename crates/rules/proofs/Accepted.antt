@@ -14,7 +14,7 @@ use Rattle.rules.specs.Blocks.{hasBadWord, totalPlaces, isBadCone}
 use Rattle.rules.specs.Projections.{sweepsFit}
 use Rattle.rules.specs.Product.{coneWork}
 use Rattle.rules.specs.Problem.{Problem, matrix, blocks, workLength}
-use Rattle.rules.specs.Refusals.{isFinite, isPacked, allFinite, badParam, tooLarge, invalidOp, badCone, notFinite, workShortage, accepted, refusal, readProblem}
+use Rattle.rules.specs.Refusals.{isFinite, isPacked, badParam, tooLarge, invalidOp, badCone, workShortage, accepted, refusal, readProblem}
 use Rattle.rules.proofs.Refusals.{none-holds}
 use Rattle.rules.proofs.Lengths.{Fitting}
 

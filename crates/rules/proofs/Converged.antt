@@ -1,21 +1,19 @@
 -- Converged is answered exactly when the step that ends the run passes the test for it.
 use Prim.Native.Nat.{ℕ, _-_}
 use native.Mathlib.Omega.{arith}
-use mathlib.Core.Path.{_≡_, refl, sym, _∙_, ap}
-use mathlib.Core.Bool.{Bool, true, false, cond, _&&_, true≢false, false≢true}
+use mathlib.Core.Path.{_≡_, refl, _∙_, ap}
+use mathlib.Core.Bool.{Bool, true, false, cond, _&&_, false≢true}
 use lib.Dec.{leb}
 use lib.Ieee.{Float, le, lt}
-use lib.ListN.{length}
 use mathlib.Core.List.{List}
-use Rattle.rules.specs.declared.Ending.{Ending}
-use Rattle.rules.specs.declared.Ending.the-variants.{Converged, ExcessIter, ExcessIterUnscaled, Unbounded, Infeasible, ConeFailure}
+use Rattle.rules.specs.declared.Ending.the-variants.{Converged, ExcessIter, ExcessIterUnscaled, Unbounded, Infeasible}
 use Rattle.rules.specs.declared.SolverParam.{SolverParam}
 use Rattle.rules.specs.Product.{Failure, none, block}
 use Rattle.rules.specs.Problem.{Problem}
 use Rattle.rules.specs.Step.{State, updated}
-use Rattle.rules.specs.Criteria.{Criteria, conv, inf?, Judged, judged, tauOf}
+use Rattle.rules.specs.Criteria.{Criteria, conv, inf?, judged, tauOf}
 use Rattle.rules.specs.Prepare.{Norms, preparedNorms}
-use Rattle.rules.specs.Run.{Turn, turn, Verdict, goesOn, ends, verdict, allowance, run}
+use Rattle.rules.specs.Run.{turn, goesOn, ends, verdict, allowance, run}
 use Rattle.rules.specs.Demands.{stateAfter, step, ConvergedTest, ConvergedExactly}
 use Rattle.rules.proofs.Run.{ends-first}
 

@@ -1,9 +1,9 @@
 -- Every routine keeps the lengths of the buffers that it writes: vectors, matrices, projections, passes over all blocks.
 use Prim.Native.Nat.{ℕ, zero, suc, _+_, _-_, _*_, _≤_}
 use native.Mathlib.Omega.{arith}
-use mathlib.Core.Path.{_≡_, refl, sym, _∙_, ap}
+use mathlib.Core.Path.{_≡_, refl, _∙_}
 use mathlib.Core.Bool.{Bool, true, false, cond}
-use mathlib.Core.List.{List, [], _∷_, _++_}
+use mathlib.Core.List.{List, [], _∷_}
 use lib.Dec.{eqb}
 use lib.Ieee.{Float, le, neg}
 use lib.ListN.{length, take, drop, length-append, length-take, length-drop}
@@ -13,7 +13,7 @@ use Rattle.rules.specs.declared.MatType.the-variants.{General, SymPack}
 use Rattle.rules.specs.declared.Cone.{Cone}
 use Rattle.rules.specs.declared.Cone.the-variants.{Zero, RPos, SOC, RotSOC, PSD}
 use Rattle.rules.specs.declared.SolverParam.{SolverParam}
-use Rattle.rules.specs.Arithmetic.{_*ᶠ_, +0, each, tabulate}
+use Rattle.rules.specs.Arithmetic.{_*ᶠ_, +0}
 use Rattle.rules.specs.Vectors.{norm, scaled, added, shifted, transformedDi}
 use Rattle.rules.specs.Matrices.{triangle, isEmpty, transformed, opped, transOpped, absaddedCols, absaddedRows}
 use Rattle.rules.specs.Blocks.{places, totalPlaces}

@@ -1,11 +1,11 @@
 -- The lengths of a run's state: an accepted problem's state starts with them, and every step keeps them.
-use Prim.Native.Nat.{ℕ, zero, suc, _+_, _-_, _*_, _≤_}
+use Prim.Native.Nat.{ℕ, zero, suc, _+_}
 use native.Mathlib.Omega.{arith}
-use mathlib.Core.Path.{_≡_, refl, sym, _∙_, ap}
-use mathlib.Core.Bool.{Bool, true, false, cond, not, _&&_, _||_}
+use mathlib.Core.Path.{_≡_, refl, _∙_}
+use mathlib.Core.Bool.{Bool, true, false}
 use mathlib.Core.List.{List, [], _∷_, _++_}
 use lib.Ieee.{Float, lt, neg}
-use lib.ListN.{length, take, drop, set, length-append, length-take, length-drop, length-set, length-replicate}
+use lib.ListN.{length, take, drop, length-append, length-take, length-drop, length-set, length-replicate}
 use lib.Seq.{length-take-le}
 use Rattle.rules.specs.Helpers.{one, smaller, reciprocal}
 use Rattle.rules.specs.Arithmetic.{_-ᶠ_, +0, at}
@@ -13,8 +13,8 @@ use Rattle.rules.specs.Vectors.{scaled, added, transformedDi}
 use Rattle.rules.specs.Matrices.{storedLength, absaddedCols, absaddedRows}
 use Rattle.rules.specs.Blocks.{totalPlaces}
 use Rattle.rules.specs.Product.{Passed, isNone, projAll, groupAll, coneWork}
-use Rattle.rules.specs.Problem.{Problem, matrix, column, blocks, lengthX, lengthY, workLength}
-use Rattle.rules.specs.Step.{State, part, aOp, aTrans, bOp, bTrans, cOp, cTrans, xX, xY, xS, xTau, yN, yM, y1, opN, opM, op1, opK, transX, transY, transS, transTau, transOpK, movedX, projected, tauTaken, movedY, updated}
+use Rattle.rules.specs.Problem.{Problem, matrix, column, blocks, lengthX, lengthY}
+use Rattle.rules.specs.Step.{State, part, aOp, aTrans, bOp, cOp, cTrans, xX, xY, xS, xTau, yN, yM, y1, opN, opM, op1, opK, transX, transY, transS, transTau, transOpK, movedX, projected, tauTaken, movedY, updated}
 use Rattle.rules.specs.Criteria.{tauOf, withResiduals, primalResidual, dualResidual, ray, dualRay, judged}
 use Rattle.rules.specs.Prepare.{Norms, zeros, diagonal, columnIn, withB, withC, startX, sumsX, sumsY, sumsS, sumsTau, groupedX, dpTauOf, dpSigmaOf, prepared, preparedNorms}
 use Rattle.rules.specs.Run.{turn, run}

@@ -13,5 +13,6 @@ pub mod KernelLengths
 pub mod Lengths
 pub mod Accepted
 pub mod OldContents
+pub mod Demands
 pub mod Outcome
 pub mod WorkedByHand

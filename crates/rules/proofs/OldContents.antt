@@ -1,12 +1,12 @@
--- What the buffers held before an accepted run changes neither the answer nor the required parts.
-use Prim.Native.Nat.{ℕ, _+_, _*_}
+-- What the buffers held before changes neither the answer nor the required parts, and places beyond those stay.
+use Prim.Native.Nat.{ℕ, _+_, _≤_}
 use native.Mathlib.Omega.{arith}
-use mathlib.Core.Path.{_≡_, refl, sym, _∙_, ap}
+use mathlib.Core.Path.{_≡_, refl, sym, _∙_}
 use mathlib.Core.Bool.{Bool, true, false, cond}
 use mathlib.Core.List.{List, _++_}
 use lib.Ieee.{Float}
 use lib.ListN.{length, take, drop, length-append, length-drop, length-replicate}
-use lib.Seq.{take-at}
+use lib.Seq.{take-at, drop-at}
 use Rattle.rules.specs.declared.Ending.{Ending}
 use Rattle.rules.specs.Helpers.{reciprocal}
 use Rattle.rules.specs.Arithmetic.{+0}
@@ -17,10 +17,10 @@ use Rattle.rules.specs.Step.{State, xX, xY}
 use Rattle.rules.specs.Criteria.{tauOf}
 use Rattle.rules.specs.Prepare.{zeros}
 use Rattle.rules.specs.Run.{Ended, isScaled, isConeFailure, finalX, laidOut, run, Left, leftBy}
-use Rattle.rules.specs.Refusals.{accepted, refusal, readProblem, solved}
-use Rattle.rules.specs.Demands.{OldContentsChangeNothing}
+use Rattle.rules.specs.Refusals.{Refusal, accepted, refused, refusal, readProblem, turnedAway, solved}
+use Rattle.rules.specs.Demands.{OldContentsChangeNothing, PlacesBeyondKept}
 use Rattle.rules.proofs.KernelLengths.{scaled-length}
-use Rattle.rules.proofs.Lengths.{Fitting, Sized, xX-length, xY-length, run-sized}
+use Rattle.rules.proofs.Lengths.{Sized, xX-length, xY-length, run-sized}
 use Rattle.rules.proofs.Accepted.{accepted-fits, read-fits}
 
 -- ---- the required parts have the required lengths
@@ -94,3 +94,45 @@ old-contents-change-nothing p work cone work' cone' e e' =
       work-required = rw (one, other) (left-work q work cone (run q) s ∙ sym (left-work q work' cone' (run q) s));
       cone-required = rw (one, other) (left-cone q work cone (run q) s ∙ sym (left-cone q work' cone' (run q) s));
     }
+
+-- ---- and the places beyond stay
+
+beyond-length : (required : ℕ) (part buffer : List Float) → length part ≡ required → required ≤ length buffer → length (part ++ drop required buffer) ≡ length buffer
+beyond-length required part buffer e h = simp (length-append, length-drop) (omega arith)
+
+record Kept (required needed : ℕ) (work cone : List Float) (l : Left) : Type 0 where
+  work-length : length (l .work) ≡ length work
+  cone-length : length (l .cone) ≡ length cone
+  work-beyond : drop required (l .work) ≡ drop required work
+  cone-beyond : drop needed (l .cone) ≡ drop needed cone
+
+left-kept : (p : Problem) (work cone : List Float) (e : Ended) → Sized p (e .state) → workLength (p .m) (p .n) ≤ length work → coneWork (blocks p) ≤ length cone → Kept (workLength (p .m) (p .n)) (coneWork (blocks p)) work cone (leftBy p work cone e)
+unfolding leftBy
+left-kept p work cone e s hw hc =
+    let required = workLength (p .m) (p .n) in
+    let needed = coneWork (blocks p) in
+    record {
+      work-length = beyond-length required (requiredWork p e) work (requiredWork-length p e s) hw;
+      cone-length = beyond-length needed (requiredCone p e) cone (requiredCone-length p e s) hc;
+      work-beyond = drop-at (requiredWork p e) (drop required work) required (requiredWork-length p e s);
+      cone-beyond = drop-at (requiredCone p e) (drop needed cone) needed (requiredCone-length p e s);
+    }
+
+solved-refused : (p : Problem) (work cone : List Float) (x : Ending) → refusal p (length work) (length cone) ≡ refused x → solved p work cone ≡ turnedAway x work cone
+unfolding solved
+solved-refused p work cone x e = rw e
+
+solved-kept : (p : Problem) (work cone : List Float) (r : Refusal) → refusal p (length work) (length cone) ≡ r → Kept (workLength (p .m) (p .n)) (coneWork (blocks p)) work cone (solved p work cone)
+unfolding readProblem
+solved-kept p work cone accepted e =
+    let q = readProblem p in
+    let fits = accepted-fits p (length work) (length cone) e in
+    rw (solved-accepted p work cone e)
+    (left-kept q work cone (run q) (run-sized q (read-fits p (fits .fitting))) (fits .long-work) (fits .long-cone))
+solved-kept p work cone (refused x) e =
+    rw (solved-refused p work cone x e) (record { work-length = refl; cone-length = refl; work-beyond = refl; cone-beyond = refl })
+
+pub places-beyond-kept : (p : Problem) (work cone : List Float) → PlacesBeyondKept p work cone
+places-beyond-kept p work cone =
+    let k = solved-kept p work cone (refusal p (length work) (length cone)) refl in
+    record { work-length = k .work-length; cone-length = k .cone-length; work-beyond = k .work-beyond; cone-beyond = k .cone-beyond }

@@ -1,7 +1,7 @@
 -- A refusal is given exactly when its fact is the first of the table to hold, and changes no buffer.
 use Prim.Native.Nat.{ℕ, zero, suc, _<_, _≤_}
 use native.Mathlib.Omega.{arith}
-use mathlib.Core.Path.{_≡_, refl, sym, _∙_, ap}
+use mathlib.Core.Path.{_≡_, refl, sym, _∙_}
 use mathlib.Core.Logic.{_↔_}
 use mathlib.Core.Bool.{Bool, true, false, cond, _&&_, true≢false}
 use mathlib.Core.List.{List}
@@ -15,7 +15,7 @@ use Rattle.rules.specs.declared.SolverParam.{SolverParam}
 use Rattle.rules.specs.Product.{Failure, none, block}
 use Rattle.rules.specs.Problem.{Problem}
 use Rattle.rules.specs.Criteria.{Criteria, conv, inf?}
-use Rattle.rules.specs.Run.{Verdict, goesOn, ends, verdict, allowance, run, Left, leftBy}
+use Rattle.rules.specs.Run.{goesOn, ends, verdict, allowance, run, Left, leftBy}
 use Rattle.rules.specs.Refusals.{Refusal, accepted, refused, refusal, badParam, tooLarge, invalidOp, badCone, notFinite, workShortage, numberOf, readProblem, turnedAway, leftAfter, solved, SolveOutcome}
 use Rattle.rules.specs.Demands.{fact, FirstToHold, TurnedAwayExactly, step}
 use Rattle.rules.proofs.Columns.{by-less}

@@ -1,9 +1,9 @@
 -- A run of k steps makes at most k × sweep limit × the sum of d(d−1) rotations.
 use Prim.Native.Nat.{ℕ, zero, suc, _+_, _-_, _*_, _/_, _≤_}
-use native.Mathlib.Nat.{mul-add, add-mul, suc-mul, zero-mul, mul-zero, mul-le-mul-left, mul-le-mul-right}
+use native.Mathlib.Nat.{mul-add, suc-mul, mul-le-mul-left}
 use native.Mathlib.Omega.{arith}
-use mathlib.Core.Path.{_≡_, refl, sym, _∙_, ap}
-use mathlib.Core.Bool.{Bool, true, false, cond}
+use mathlib.Core.Path.{_≡_, refl}
+use mathlib.Core.Bool.{Bool, true, false}
 use mathlib.Core.List.{List, [], _∷_, _++_}
 use lib.Ieee.{Float}
 use lib.ListN.{take, drop}
@@ -12,8 +12,8 @@ use Rattle.rules.specs.declared.Cone.the-variants.{Zero, RPos, SOC, RotS
 use Rattle.rules.specs.declared.SolverParam.{SolverParam}
 use Rattle.rules.specs.Arithmetic.{_*ᶠ_}
 use Rattle.rules.specs.Blocks.{places}
-use Rattle.rules.specs.Projections.{Projected, √2, diagonalTimes, unit, projPSD, projBlock}
-use Rattle.rules.specs.Product.{Passed, projAll, oneLater, block, isNone}
+use Rattle.rules.specs.Projections.{√2, diagonalTimes, unit, projPSD, projBlock}
+use Rattle.rules.specs.Product.{Passed, projAll, isNone}
 use Rattle.rules.specs.Problem.{Problem, blocks}
 use Rattle.rules.specs.Step.{State, movedX, projected, updated, xX, xY, xS}
 use Rattle.rules.specs.Prepare.{Norms, preparedNorms}

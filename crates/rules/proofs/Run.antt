@@ -4,18 +4,18 @@ use native.Mathlib.Numerals.{add-one}
 use native.Mathlib.Omega.{arith}
 use mathlib.Core.Path.{_≡_, refl, sym, _∙_, ap}
 use mathlib.Core.Logic.{_↔_}
-use mathlib.Core.Bool.{Bool, true, false, cond, _&&_, _||_, true≢false, false≢true}
+use mathlib.Core.Bool.{Bool, true, false, cond, _||_, true≢false}
 use borrow.Author.Tests.{leb-false, lt-leb}
 use lib.Dec.{leb}
-use lib.Ieee.{Float, le, lt}
+use lib.Ieee.{le}
 use Rattle.rules.specs.declared.Ending.{Ending}
-use Rattle.rules.specs.declared.Ending.the-variants.{Converged, ExcessIter, ExcessIterUnscaled, Unbounded, Infeasible, ConeFailure}
+use Rattle.rules.specs.declared.Ending.the-variants.{Converged, ExcessIter, ExcessIterUnscaled, Unbounded, Infeasible}
 use Rattle.rules.specs.declared.SolverParam.{SolverParam}
 use Rattle.rules.specs.Product.{Failure, none, block}
 use Rattle.rules.specs.Problem.{Problem}
 use Rattle.rules.specs.Step.{State}
 use Rattle.rules.specs.Criteria.{Criteria, conv, inf?}
-use Rattle.rules.specs.Prepare.{Norms, preparedNorms, prepared}
+use Rattle.rules.specs.Prepare.{Norms, preparedNorms}
 use Rattle.rules.specs.Run.{Turn, turn, Verdict, goesOn, ends, verdict, allowance, Ended, finished, runFrom, run}
 use Rattle.rules.specs.Demands.{stateAfter, step, verdictAt, rotationsUpTo, EndsFirst, endingTest, GoesOnExactly}
 use Rattle.rules.proofs.Columns.{by-less}
@@ -119,3 +119,20 @@ unfolding run stateAfter rotationsUpTo
 ends-first p =
     ends-from p (allowance (p .par)) 0 0 (omega arith) (omega arith)
     (record { counts = refl; on = λ k l h. absurd (omega arith) })
+
+-- ---- nothing else ends so
+
+same-ended : (d e : Ended) → d .ending ≡ e .ending → d .steps ≡ e .steps → d .rotations ≡ e .rotations → d .state ≡ e .state → d ≡ e
+same-ended d e a b c f = λ i. record { ending = a i; steps = b i; rotations = c i; state = f i }
+
+-- of two steps that end the run first neither is before the other
+not-earlier : {p : Problem} {d e : Ended} → EndsFirst p d → EndsFirst p e → d .steps < e .steps → ⊥
+not-earlier {p} {d} {e} f g h = ends-not-on (sym (f .ends-there) ∙ g .not-before (d .steps) (f .at-least-one) h)
+
+pub ends-first-once : {p : Problem} {d e : Ended} → EndsFirst p d → EndsFirst p e → d ≡ e
+ends-first-once {p} {d} {e} f g =
+    let k : d .steps ≡ e .steps = by-less (d .steps) (e .steps) (λ l. absurd (not-earlier f g l)) (λ l. by-less (e .steps) (d .steps) (λ r. absurd (not-earlier g f r)) (λ r. omega arith)) in
+    let a = f .ends-there in
+    let b : verdictAt p (d .steps) ≡ ends (e .ending) = rw k (g .ends-there) in
+    let c : d .ending ≡ e .ending = cc in
+    same-ended d e c k (f .counts ∙ ap (rotationsUpTo p) k ∙ sym (g .counts)) (f .state-there ∙ ap (stateAfter p) k ∙ sym (g .state-there))

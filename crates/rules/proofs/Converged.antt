@@ -9,7 +9,7 @@ use mathlib.Core.List.{List}
 use Rattle.rules.specs.declared.Ending.the-variants.{Converged, ExcessIter, ExcessIterUnscaled, Unbounded, Infeasible}
 use Rattle.rules.specs.declared.SolverParam.{SolverParam}
 use Rattle.rules.specs.Product.{Failure, none, block}
-use Rattle.rules.specs.Problem.{Problem}
+use Rattle.rules.specs.Problem.{Problem, embed}
 use Rattle.rules.specs.Step.{State, updated}
 use Rattle.rules.specs.Criteria.{Criteria, conv, inf?, judged, tauOf}
 use Rattle.rules.specs.Prepare.{Norms, preparedNorms}
@@ -66,19 +66,19 @@ passed par k failure criteria pri dual gap f c a b g = rw (f, c, a, b, g)
 not-both : {P : Type 0} {u v pri dual gap : Float} → inf? u v ≡ conv pri dual gap → P
 not-both h = absurd-ends (cc)
 
-tau-is-above : (p : Problem) (ns : Norms) (x rx : List Float) (pri dual gap : Float) → judged p ns x rx .criteria ≡ conv pri dual gap → lt (p .par .«eps_zero») (tauOf p x) ≡ true
+tau-is-above : (p : Problem) (ns : Norms) (x rx : List Float) (pri dual gap : Float) → judged (embed p) (p .par .«eps_zero») ns x rx .criteria ≡ conv pri dual gap → lt (p .par .«eps_zero») (tauOf (embed p) x) ≡ true
 unfolding judged
-tau-is-above p ns x rx pri dual gap h = go (lt (p .par .«eps_zero») (tauOf p x)) refl
+tau-is-above p ns x rx pri dual gap h = go (lt (p .par .«eps_zero») (tauOf (embed p) x)) refl
   where
-    go : (b : Bool) → lt (p .par .«eps_zero») (tauOf p x) ≡ b → b ≡ true
+    go : (b : Bool) → lt (p .par .«eps_zero») (tauOf (embed p) x) ≡ b → b ≡ true
     go true e = refl
     go false e = not-both (rw e at h)
 
-turn-above : (p : Problem) (ns : Norms) (s : State) (pri dual gap : Float) → turn p ns s .criteria ≡ conv pri dual gap → lt (p .par .«eps_zero») (tauOf p (turn p ns s .state .x)) ≡ true
+turn-above : (p : Problem) (ns : Norms) (s : State) (pri dual gap : Float) → turn p ns s .criteria ≡ conv pri dual gap → lt (p .par .«eps_zero») (tauOf (embed p) (turn p ns s .state .x)) ≡ true
 unfolding turn
 turn-above p ns s pri dual gap h = tau-is-above p ns (updated p s .state .x) (updated p s .state .rx) pri dual gap h
 
-step-above : (p : Problem) (k : ℕ) (pri dual gap : Float) → step p k .criteria ≡ conv pri dual gap → lt (p .par .«eps_zero») (tauOf p (step p k .state .x)) ≡ true
+step-above : (p : Problem) (k : ℕ) (pri dual gap : Float) → step p k .criteria ≡ conv pri dual gap → lt (p .par .«eps_zero») (tauOf (embed p) (step p k .state .x)) ≡ true
 unfolding step
 step-above p k pri dual gap h = turn-above p (preparedNorms p) (stateAfter p (k - 1)) pri dual gap h
 

@@ -13,7 +13,7 @@ use Rattle.rules.specs.Vectors.{scaled, added, transformedDi}
 use Rattle.rules.specs.Matrices.{storedLength, absaddedCols, absaddedRows}
 use Rattle.rules.specs.Blocks.{totalPlaces}
 use Rattle.rules.specs.Product.{Passed, isNone, projAll, groupAll, coneWork}
-use Rattle.rules.specs.Problem.{Problem, matrix, column, blocks, lengthX, lengthY}
+use Rattle.rules.specs.Problem.{Problem, Embed, embed, matrix, column, blocks, lengthX, lengthY}
 use Rattle.rules.specs.Step.{State, part, aOp, aTrans, bOp, cOp, cTrans, xX, xY, xS, xTau, yN, yM, y1, opN, opM, op1, opK, transX, transY, transS, transTau, transOpK, movedX, projected, tauTaken, movedY, updated}
 use Rattle.rules.specs.Criteria.{tauOf, withResiduals, primalResidual, dualResidual, ray, dualRay, judged}
 use Rattle.rules.specs.Prepare.{Norms, zeros, diagonal, columnIn, withB, withC, startX, sumsX, sumsY, sumsS, sumsTau, groupedX, dpTauOf, dpSigmaOf, prepared, preparedNorms}
@@ -42,80 +42,80 @@ pub record Sized (p : Problem) (s : State) : Type 0 where
 
 -- ---- the places of a vector like x, and of one like y
 
-module _ (p : Problem) (v : List Float) (h : length v ≡ lengthX (p .m) (p .n)) where
-  pub xX-length : length (xX p v) ≡ p .n
-  xX-length = part-length 0 (p .n) v (omega arith)
+module _ (k : Embed) (v : List Float) (h : length v ≡ lengthX (k .m) (k .n)) where
+  pub xX-length : length (xX k v) ≡ k .n
+  xX-length = part-length 0 (k .n) v (omega arith)
 
-  pub xY-length : length (xY p v) ≡ p .m
-  xY-length = part-length (p .n) (p .m) v (omega arith)
+  pub xY-length : length (xY k v) ≡ k .m
+  xY-length = part-length (k .n) (k .m) v (omega arith)
 
-  pub xS-length : length (xS p v) ≡ p .m
-  xS-length = part-length (p .n + p .m) (p .m) v (omega arith)
+  pub xS-length : length (xS k v) ≡ k .m
+  xS-length = part-length (k .n + k .m) (k .m) v (omega arith)
 
-  pub xTau-length : length (xTau p v) ≡ 1
-  xTau-length = part-length (p .n + p .m + p .m) 1 v (omega arith)
+  pub xTau-length : length (xTau k v) ≡ 1
+  xTau-length = part-length (k .n + k .m + k .m) 1 v (omega arith)
 
-module _ (p : Problem) (v : List Float) (h : length v ≡ lengthY (p .m) (p .n)) where
-  pub yN-length : length (yN p v) ≡ p .n
-  yN-length = part-length 0 (p .n) v (omega arith)
+module _ (k : Embed) (v : List Float) (h : length v ≡ lengthY (k .m) (k .n)) where
+  pub yN-length : length (yN k v) ≡ k .n
+  yN-length = part-length 0 (k .n) v (omega arith)
 
-  pub yM-length : length (yM p v) ≡ p .m
-  yM-length = part-length (p .n) (p .m) v (omega arith)
+  pub yM-length : length (yM k v) ≡ k .m
+  yM-length = part-length (k .n) (k .m) v (omega arith)
 
-  pub y1-length : length (y1 p v) ≡ 1
-  y1-length = part-length (p .n + p .m) 1 v (omega arith)
+  pub y1-length : length (y1 k v) ≡ 1
+  y1-length = part-length (k .n + k .m) 1 v (omega arith)
 
 -- ---- the operator of the embedding
 
-module _ (p : Problem) (alpha : Float) (y : List Float) (beta : Float) (x : List Float) where
-  transX-length : length (transX p alpha y beta x) ≡ length (xX p x)
+module _ (k : Embed) (alpha : Float) (y : List Float) (beta : Float) (x : List Float) where
+  transX-length : length (transX k alpha y beta x) ≡ length (xX k x)
   unfolding transX
   transX-length =
-      opped-length (column (p .n)) (neg alpha) (p .c) (y1 p y) one (aTrans p (neg alpha) (yM p y) beta (xX p x))
-      ∙ transOpped-length (matrix p) (neg alpha) (p .a) (yM p y) beta (xX p x)
+      opped-length (column (k .n)) (neg alpha) (k .c) (y1 k y) one (aTrans k (neg alpha) (yM k y) beta (xX k x))
+      ∙ transOpped-length (k .t) (neg alpha) (k .a) (yM k y) beta (xX k x)
 
-  transY-length : length (transY p alpha y beta x) ≡ length (xY p x)
+  transY-length : length (transY k alpha y beta x) ≡ length (xY k x)
   unfolding transY
   transY-length =
-      opped-length (column (p .m)) (neg alpha) (p .b) (y1 p y) one (aOp p alpha (yN p y) beta (xY p x))
-      ∙ opped-length (matrix p) alpha (p .a) (yN p y) beta (xY p x)
+      opped-length (column (k .m)) (neg alpha) (k .b) (y1 k y) one (aOp k alpha (yN k y) beta (xY k x))
+      ∙ opped-length (k .t) alpha (k .a) (yN k y) beta (xY k x)
 
-  transS-length : length (transS p alpha y beta x) ≡ length (xS p x)
+  transS-length : length (transS k alpha y beta x) ≡ length (xS k x)
   unfolding transS
-  transS-length = added-length (neg alpha) (yM p y) (scaled beta (xS p x)) ∙ scaled-length beta (xS p x)
+  transS-length = added-length (neg alpha) (yM k y) (scaled beta (xS k x)) ∙ scaled-length beta (xS k x)
 
-  transTau-length : length (transTau p alpha y beta x) ≡ length (xTau p x)
+  transTau-length : length (transTau k alpha y beta x) ≡ length (xTau k x)
   unfolding transTau
   transTau-length =
-      transOpped-length (column (p .m)) alpha (p .b) (yM p y) one (cTrans p alpha (yN p y) beta (xTau p x))
-      ∙ transOpped-length (column (p .n)) alpha (p .c) (yN p y) beta (xTau p x)
+      transOpped-length (column (k .m)) alpha (k .b) (yM k y) one (cTrans k alpha (yN k y) beta (xTau k x))
+      ∙ transOpped-length (column (k .n)) alpha (k .c) (yN k y) beta (xTau k x)
 
-  pub transOpK-length : length x ≡ lengthX (p .m) (p .n) → length (transOpK p alpha y beta x) ≡ lengthX (p .m) (p .n)
+  pub transOpK-length : length x ≡ lengthX (k .m) (k .n) → length (transOpK k alpha y beta x) ≡ lengthX (k .m) (k .n)
   transOpK-length h =
-      simp (length-append, transX-length, transY-length, transS-length, transTau-length) (omega (arith, xX-length p x h, xY-length p x h, xS-length p x h, xTau-length p x h))
+      simp (length-append, transX-length, transY-length, transS-length, transTau-length) (omega (arith, xX-length k x h, xY-length k x h, xS-length k x h, xTau-length k x h))
 
-module _ (p : Problem) (alpha : Float) (x : List Float) (beta : Float) (y : List Float) where
-  opN-length : length (opN p alpha x beta y) ≡ length (yN p y)
+module _ (k : Embed) (alpha : Float) (x : List Float) (beta : Float) (y : List Float) where
+  opN-length : length (opN k alpha x beta y) ≡ length (yN k y)
   unfolding opN
   opN-length =
-      opped-length (column (p .n)) alpha (p .c) (xTau p x) one (aTrans p alpha (xY p x) beta (yN p y))
-      ∙ transOpped-length (matrix p) alpha (p .a) (xY p x) beta (yN p y)
+      opped-length (column (k .n)) alpha (k .c) (xTau k x) one (aTrans k alpha (xY k x) beta (yN k y))
+      ∙ transOpped-length (k .t) alpha (k .a) (xY k x) beta (yN k y)
 
-  opM-length : length (opM p alpha x beta y) ≡ length (yM p y)
+  opM-length : length (opM k alpha x beta y) ≡ length (yM k y)
   unfolding opM
   opM-length =
-      opped-length (column (p .m)) alpha (p .b) (xTau p x) one (added (neg alpha) (xS p x) (aOp p (neg alpha) (xX p x) beta (yM p y)))
-      ∙ added-length (neg alpha) (xS p x) (aOp p (neg alpha) (xX p x) beta (yM p y))
-      ∙ opped-length (matrix p) (neg alpha) (p .a) (xX p x) beta (yM p y)
+      opped-length (column (k .m)) alpha (k .b) (xTau k x) one (added (neg alpha) (xS k x) (aOp k (neg alpha) (xX k x) beta (yM k y)))
+      ∙ added-length (neg alpha) (xS k x) (aOp k (neg alpha) (xX k x) beta (yM k y))
+      ∙ opped-length (k .t) (neg alpha) (k .a) (xX k x) beta (yM k y)
 
-  op1-length : length (op1 p alpha x beta y) ≡ length (y1 p y)
+  op1-length : length (op1 k alpha x beta y) ≡ length (y1 k y)
   unfolding op1
   op1-length =
-      transOpped-length (column (p .m)) (neg alpha) (p .b) (xY p x) one (cTrans p (neg alpha) (xX p x) beta (y1 p y))
-      ∙ transOpped-length (column (p .n)) (neg alpha) (p .c) (xX p x) beta (y1 p y)
+      transOpped-length (column (k .m)) (neg alpha) (k .b) (xY k x) one (cTrans k (neg alpha) (xX k x) beta (y1 k y))
+      ∙ transOpped-length (column (k .n)) (neg alpha) (k .c) (xX k x) beta (y1 k y)
 
-  pub opK-length : length y ≡ lengthY (p .m) (p .n) → length (opK p alpha x beta y) ≡ lengthY (p .m) (p .n)
-  opK-length h = simp (length-append, opN-length, opM-length, op1-length) (omega (arith, yN-length p y h, yM-length p y h, y1-length p y h))
+  pub opK-length : length y ≡ lengthY (k .m) (k .n) → length (opK k alpha x beta y) ≡ lengthY (k .m) (k .n)
+  opK-length h = simp (length-append, opN-length, opM-length, op1-length) (omega (arith, yN-length k y h, yM-length k y h, y1-length k y h))
 
 -- ---- a step
 
@@ -123,12 +123,12 @@ pub movedX-sized : (p : Problem) (s : State) → Sized p s → Sized p (movedX p
 unfolding movedX
 movedX-sized p s h =
     record {
-      x = transformedDi-length one (s .dpTau) (transOpK p (neg one) (s .y) +0 (s .tx)) one (s .x) ∙ h .x;
+      x = transformedDi-length one (s .dpTau) (transOpK (embed p) (neg one) (s .y) +0 (s .tx)) one (s .x) ∙ h .x;
       y = h .y;
       dpTau = h .dpTau;
       dpSigma = h .dpSigma;
       rx = h .x;
-      tx = transOpK-length p (neg one) (s .y) +0 (s .tx) (h .tx);
+      tx = transOpK-length (embed p) (neg one) (s .y) +0 (s .tx) (h .tx);
       cone = h .cone;
     }
 
@@ -141,31 +141,31 @@ unfolding projected
 projected-sized p x cone fit h k = go (isNone (dual .failure)) refl
   where
     dual : Passed
-    dual = projAll (p .par) true (blocks p) (xY p x) cone
+    dual = projAll (p .par) true (blocks p) (xY (embed p) x) cone
 
     x' : List Float
-    x' = xX p x ++ dual .cone ++ drop (p .n + p .m) x
+    x' = xX (embed p) x ++ dual .cone ++ drop (p .n + p .m) x
 
     primal : Passed
-    primal = projAll (p .par) false (blocks p) (xS p x') (dual .work)
+    primal = projAll (p .par) false (blocks p) (xS (embed p) x') (dual .work)
 
-    dual-keeps : PassKeeps (blocks p) (xY p x) cone dual
-    dual-keeps = pass-keeps (p .par) true (blocks p) (xY p x) cone (omega (arith, xY-length p x h))
+    dual-keeps : PassKeeps (blocks p) (xY (embed p) x) cone dual
+    dual-keeps = pass-keeps (p .par) true (blocks p) (xY (embed p) x) cone (omega (arith, xY-length (embed p) x h))
 
     dual-cone : length (dual .cone) ≡ p .m
-    dual-cone = dual-keeps .cone ∙ xY-length p x h
+    dual-cone = dual-keeps .cone ∙ xY-length (embed p) x h
 
     dual-work : length (dual .work) ≡ coneWork (blocks p)
     dual-work = dual-keeps .work (omega arith) ∙ k
 
     x'-length : length x' ≡ lengthX (p .m) (p .n)
-    x'-length = simp (length-append, length-drop) (omega (arith, xX-length p x h, dual-cone))
+    x'-length = simp (length-append, length-drop) (omega (arith, xX-length (embed p) x h, dual-cone))
 
-    primal-keeps : PassKeeps (blocks p) (xS p x') (dual .work) primal
-    primal-keeps = pass-keeps (p .par) false (blocks p) (xS p x') (dual .work) (omega (arith, xS-length p x' x'-length))
+    primal-keeps : PassKeeps (blocks p) (xS (embed p) x') (dual .work) primal
+    primal-keeps = pass-keeps (p .par) false (blocks p) (xS (embed p) x') (dual .work) (omega (arith, xS-length (embed p) x' x'-length))
 
     primal-cone : length (primal .cone) ≡ p .m
-    primal-cone = primal-keeps .cone ∙ xS-length p x' x'-length
+    primal-cone = primal-keeps .cone ∙ xS-length (embed p) x' x'-length
 
     both-cone : length (take (p .n + p .m) x' ++ primal .cone ++ drop (p .n + p .m + p .m) x') ≡ lengthX (p .m) (p .n)
     both-cone =
@@ -184,9 +184,9 @@ pub movedY-sized : (p : Problem) (s : State) → Sized p s → Sized p (movedY p
 unfolding movedY
 movedY-sized p s h =
     let rx = added (neg one -ᶠ one) (s .x) (s .rx) in
-    let ty = opK p (neg one) rx +0 (take (lengthY (p .m) (p .n)) (s .tx)) in
+    let ty = opK (embed p) (neg one) rx +0 (take (lengthY (p .m) (p .n)) (s .tx)) in
     let y = transformedDi one (s .dpSigma) ty one (s .y) in
-    let ty-length : length ty ≡ lengthY (p .m) (p .n) = opK-length p (neg one) rx +0 (take (lengthY (p .m) (p .n)) (s .tx)) (length-take-le (lengthY (p .m) (p .n)) (s .tx) (omega arith)) in
+    let ty-length : length ty ≡ lengthY (p .m) (p .n) = opK-length (embed p) (neg one) rx +0 (take (lengthY (p .m) (p .n)) (s .tx)) (length-take-le (lengthY (p .m) (p .n)) (s .tx) (omega arith)) in
     record {
       x = h .x;
       y = length-set y (p .n + p .m) (smaller (at y (p .n + p .m)) +0) ∙ transformedDi-length one (s .dpSigma) ty one (s .y) ∙ h .y;
@@ -209,49 +209,49 @@ updated-sized p s fit h =
 
 -- ---- the criteria
 
-module _ (p : Problem) (x : List Float) where
-  primalResidual-length : length (primalResidual p x) ≡ length (xS p x)
+module _ (k : Embed) (x : List Float) where
+  primalResidual-length : length (primalResidual k x) ≡ length (xS k x)
   unfolding primalResidual
   primalResidual-length =
-      let scale = reciprocal (tauOf p x) in
-      opped-length (matrix p) scale (p .a) (xX p x) one (bOp p (neg one) (one ∷ []) scale (xS p x))
-      ∙ opped-length (column (p .m)) (neg one) (p .b) (one ∷ []) scale (xS p x)
+      let scale = reciprocal (tauOf k x) in
+      opped-length (k .t) scale (k .a) (xX k x) one (bOp k (neg one) (one ∷ []) scale (xS k x))
+      ∙ opped-length (column (k .m)) (neg one) (k .b) (one ∷ []) scale (xS k x)
 
-  dualResidual-length : (d : List Float) → length (dualResidual p x d) ≡ length d
+  dualResidual-length : (d : List Float) → length (dualResidual k x d) ≡ length d
   unfolding dualResidual
   dualResidual-length d =
-      transOpped-length (matrix p) (reciprocal (tauOf p x)) (p .a) (xY p x) one (cOp p one (one ∷ []) +0 d)
-      ∙ opped-length (column (p .n)) one (p .c) (one ∷ []) +0 d
+      transOpped-length (k .t) (reciprocal (tauOf k x)) (k .a) (xY k x) one (cOp k one (one ∷ []) +0 d)
+      ∙ opped-length (column (k .n)) one (k .c) (one ∷ []) +0 d
 
-  ray-length : length (ray p x) ≡ length (xS p x)
+  ray-length : length (ray k x) ≡ length (xS k x)
   unfolding ray
-  ray-length = opped-length (matrix p) one (p .a) (xX p x) one (xS p x)
+  ray-length = opped-length (k .t) one (k .a) (xX k x) one (xS k x)
 
-  dualRay-length : (d : List Float) → length (dualRay p x d) ≡ length d
+  dualRay-length : (d : List Float) → length (dualRay k x d) ≡ length d
   unfolding dualRay
-  dualRay-length d = transOpped-length (matrix p) one (p .a) (xY p x) +0 d
+  dualRay-length d = transOpped-length (k .t) one (k .a) (xY k x) +0 d
 
 -- p and d stand at the front of rx
-pub withResiduals-length : (pri dual : List Float) (p : Problem) (rx : List Float) → length pri ≡ p .m → length dual ≡ p .n → length rx ≡ lengthX (p .m) (p .n) → length (withResiduals pri dual p rx) ≡ lengthX (p .m) (p .n)
-withResiduals-length pri dual p rx hp hd h = simp (length-append, length-drop) (omega arith)
+pub withResiduals-length : (pri dual : List Float) (k : Embed) (rx : List Float) → length pri ≡ k .m → length dual ≡ k .n → length rx ≡ lengthX (k .m) (k .n) → length (withResiduals pri dual k rx) ≡ lengthX (k .m) (k .n)
+withResiduals-length pri dual k rx hp hd h = simp (length-append, length-drop) (omega arith)
 
-pub judged-length : (p : Problem) (ns : Norms) (x rx : List Float) → length x ≡ lengthX (p .m) (p .n) → length rx ≡ lengthX (p .m) (p .n) → length (judged p ns x rx .rx) ≡ lengthX (p .m) (p .n)
+pub judged-length : (k : Embed) (eps : Float) (ns : Norms) (x rx : List Float) → length x ≡ lengthX (k .m) (k .n) → length rx ≡ lengthX (k .m) (k .n) → length (judged k eps ns x rx .rx) ≡ lengthX (k .m) (k .n)
 unfolding judged
-judged-length p ns x rx h k = go (lt (p .par .«eps_zero») (tauOf p x)) refl
+judged-length k eps ns x rx h l = go (lt eps (tauOf k x)) refl
   where
     d : List Float
-    d = part (p .m) (p .n) rx
+    d = part (k .m) (k .n) rx
 
-    d-length : length d ≡ p .n
-    d-length = part-length (p .m) (p .n) rx (omega arith)
+    d-length : length d ≡ k .n
+    d-length = part-length (k .m) (k .n) rx (omega arith)
 
-    go : (t : Bool) → lt (p .par .«eps_zero») (tauOf p x) ≡ t → length (judged p ns x rx .rx) ≡ lengthX (p .m) (p .n)
+    go : (t : Bool) → lt eps (tauOf k x) ≡ t → length (judged k eps ns x rx .rx) ≡ lengthX (k .m) (k .n)
     go true e =
         rw e
-        (withResiduals-length (primalResidual p x) (dualResidual p x d) p rx (primalResidual-length p x ∙ xS-length p x h) (dualResidual-length p x d ∙ d-length) k)
+        (withResiduals-length (primalResidual k x) (dualResidual k x d) k rx (primalResidual-length k x ∙ xS-length k x h) (dualResidual-length k x d ∙ d-length) l)
     go false e =
         rw e
-        (withResiduals-length (ray p x) (dualRay p x d) p rx (ray-length p x ∙ xS-length p x h) (dualRay-length p x d ∙ d-length) k)
+        (withResiduals-length (ray k x) (dualRay k x d) k rx (ray-length k x ∙ xS-length k x h) (dualRay-length k x d ∙ d-length) l)
 
 -- ---- a whole step
 
@@ -265,7 +265,7 @@ turn-sized p ns s fit h =
       y = k .y;
       dpTau = k .dpTau;
       dpSigma = k .dpSigma;
-      rx = judged-length p ns (v .x) (v .rx) (k .x) (k .rx);
+      rx = judged-length (embed p) (p .par .«eps_zero») ns (v .x) (v .rx) (k .x) (k .rx);
       tx = k .tx;
       cone = k .cone;
     }
@@ -276,67 +276,67 @@ columnIn-length : (rows : ℕ) (v t : List Float) → length (columnIn rows v t)
 unfolding columnIn
 columnIn-length rows v t = opped-length (column rows) one v (one ∷ []) +0 t
 
-pub withB-length : (p : Problem) (x : List Float) → length (withB p x) ≡ length x
+pub withB-length : (k : Embed) (x : List Float) → length (withB k x) ≡ length x
 unfolding withB
-withB-length p x =
-    length-append (columnIn (p .m) (p .b) (take (p .m) x)) (drop (p .m) x)
-    ∙ omega (arith, columnIn-length (p .m) (p .b) (take (p .m) x), length-take (p .m) x, length-drop (p .m) x)
+withB-length k x =
+    length-append (columnIn (k .m) (k .b) (take (k .m) x)) (drop (k .m) x)
+    ∙ omega (arith, columnIn-length (k .m) (k .b) (take (k .m) x), length-take (k .m) x, length-drop (k .m) x)
 
-pub withC-length : (p : Problem) (x : List Float) → length (withC p x) ≡ length x
+pub withC-length : (k : Embed) (x : List Float) → length (withC k x) ≡ length x
 unfolding withC
-withC-length p x =
-    length-append (columnIn (p .n) (p .c) (take (p .n) x)) (drop (p .n) x)
-    ∙ omega (arith, columnIn-length (p .n) (p .c) (take (p .n) x), length-take (p .n) x, length-drop (p .n) x)
+withC-length k x =
+    length-append (columnIn (k .n) (k .c) (take (k .n) x)) (drop (k .n) x)
+    ∙ omega (arith, columnIn-length (k .n) (k .c) (take (k .n) x), length-take (k .n) x, length-drop (k .n) x)
 
-pub startX-length : (p : Problem) (x : List Float) → length (startX p x) ≡ length x
+pub startX-length : (k : Embed) (x : List Float) → length (startX k x) ≡ length x
 unfolding startX
-startX-length p x =
-    length-set (scaled +0 (withC p (withB p x))) (p .n + p .m + p .m) one
-    ∙ scaled-length +0 (withC p (withB p x))
-    ∙ withC-length p (withB p x)
-    ∙ withB-length p x
+startX-length k x =
+    length-set (scaled +0 (withC k (withB k x))) (k .n + k .m + k .m) one
+    ∙ scaled-length +0 (withC k (withB k x))
+    ∙ withC-length k (withB k x)
+    ∙ withB-length k x
 
-module _ (p : Problem) (t : List Float) (h : length t ≡ lengthX (p .m) (p .n)) where
-  pub sumsX-length : length (sumsX p t) ≡ p .n
+module _ (k : Embed) (t : List Float) (h : length t ≡ lengthX (k .m) (k .n)) where
+  pub sumsX-length : length (sumsX k t) ≡ k .n
   unfolding sumsX
   sumsX-length =
-      absaddedRows-length (column (p .n)) (p .c) (absaddedCols (matrix p) (p .a) (xX p t))
-      ∙ absaddedCols-length (matrix p) (p .a) (xX p t)
-      ∙ xX-length p t h
+      absaddedRows-length (column (k .n)) (k .c) (absaddedCols (k .t) (k .a) (xX k t))
+      ∙ absaddedCols-length (k .t) (k .a) (xX k t)
+      ∙ xX-length k t h
 
-  pub sumsY-length : length (sumsY p t) ≡ p .m
+  pub sumsY-length : length (sumsY k t) ≡ k .m
   unfolding sumsY
   sumsY-length =
-      absaddedRows-length (column (p .m)) (p .b) (absaddedRows (matrix p) (p .a) (xY p t))
-      ∙ absaddedRows-length (matrix p) (p .a) (xY p t)
-      ∙ xY-length p t h
+      absaddedRows-length (column (k .m)) (k .b) (absaddedRows (k .t) (k .a) (xY k t))
+      ∙ absaddedRows-length (k .t) (k .a) (xY k t)
+      ∙ xY-length k t h
 
-  pub sumsS-length : length (sumsS p t) ≡ p .m
+  pub sumsS-length : length (sumsS k t) ≡ k .m
   unfolding sumsS
-  sumsS-length = shifted-length one (xS p t) ∙ xS-length p t h
+  sumsS-length = shifted-length one (xS k t) ∙ xS-length k t h
 
-  pub sumsTau-length : length (sumsTau p t) ≡ 1
+  pub sumsTau-length : length (sumsTau k t) ≡ 1
   unfolding sumsTau
   sumsTau-length =
-      absaddedCols-length (column (p .m)) (p .b) (absaddedCols (column (p .n)) (p .c) (xTau p t))
-      ∙ absaddedCols-length (column (p .n)) (p .c) (xTau p t)
-      ∙ xTau-length p t h
+      absaddedCols-length (column (k .m)) (k .b) (absaddedCols (column (k .n)) (k .c) (xTau k t))
+      ∙ absaddedCols-length (column (k .n)) (k .c) (xTau k t)
+      ∙ xTau-length k t h
 
 pub groupedX-length : (p : Problem) (d : List Float) → length d ≡ lengthX (p .m) (p .n) → length (groupedX p d) ≡ lengthX (p .m) (p .n)
 unfolding groupedX
 groupedX-length p d h =
-    length-append (xX p d ++ groupAll (blocks p) (xY p d) ++ groupAll (blocks p) (xS p d)) (xTau p d)
-    ∙ omega (arith, length-append (xX p d ++ groupAll (blocks p) (xY p d)) (groupAll (blocks p) (xS p d)), length-append (xX p d) (groupAll (blocks p) (xY p d)), groupAll-length (blocks p) (xY p d), groupAll-length (blocks p) (xS p d), xX-length p d h, xY-length p d h, xS-length p d h, xTau-length p d h)
+    length-append (xX (embed p) d ++ groupAll (blocks p) (xY (embed p) d) ++ groupAll (blocks p) (xS (embed p) d)) (xTau (embed p) d)
+    ∙ omega (arith, length-append (xX (embed p) d ++ groupAll (blocks p) (xY (embed p) d)) (groupAll (blocks p) (xS (embed p) d)), length-append (xX (embed p) d) (groupAll (blocks p) (xY (embed p) d)), groupAll-length (blocks p) (xY (embed p) d), groupAll-length (blocks p) (xS (embed p) d), xX-length (embed p) d h, xY-length (embed p) d h, xS-length (embed p) d h, xTau-length (embed p) d h)
 
 pub dpTauOf-length : (p : Problem) (tau : List Float) → length tau ≡ lengthX (p .m) (p .n) → length (dpTauOf p tau) ≡ lengthX (p .m) (p .n)
 unfolding dpTauOf
 dpTauOf-length p tau h =
     let t = scaled +0 tau in
     let k : length t ≡ lengthX (p .m) (p .n) = scaled-length +0 tau ∙ h in
-    let sums = sumsX p t ++ sumsY p t ++ sumsS p t ++ sumsTau p t in
+    let sums = sumsX (embed p) t ++ sumsY (embed p) t ++ sumsS (embed p) t ++ sumsTau (embed p) t in
     let l : length sums ≡ lengthX (p .m) (p .n) =
-    length-append (sumsX p t ++ sumsY p t ++ sumsS p t) (sumsTau p t)
-    ∙ omega (arith, length-append (sumsX p t ++ sumsY p t) (sumsS p t), length-append (sumsX p t) (sumsY p t), sumsX-length p t k, sumsY-length p t k, sumsS-length p t k, sumsTau-length p t k) in
+    length-append (sumsX (embed p) t ++ sumsY (embed p) t ++ sumsS (embed p) t) (sumsTau (embed p) t)
+    ∙ omega (arith, length-append (sumsX (embed p) t ++ sumsY (embed p) t) (sumsS (embed p) t), length-append (sumsX (embed p) t) (sumsY (embed p) t), sumsX-length (embed p) t k, sumsY-length (embed p) t k, sumsS-length (embed p) t k, sumsTau-length (embed p) t k) in
     groupedX-length p (diagonal (p .par .«eps_zero») sums) (diagonal-length (p .par .«eps_zero») sums ∙ l)
 
 pub dpSigmaOf-length : (p : Problem) (tau : List Float) → length tau ≡ lengthX (p .m) (p .n) → length (dpSigmaOf p tau) ≡ lengthY (p .m) (p .n)
@@ -344,10 +344,10 @@ unfolding dpSigmaOf
 dpSigmaOf-length p tau h =
     let t = scaled +0 tau in
     let k : length t ≡ lengthX (p .m) (p .n) = scaled-length +0 tau ∙ h in
-    let middle = added one (sumsS p t) (sumsY p t) in
-    diagonal-length (p .par .«eps_zero») (sumsX p t ++ middle ++ sumsTau p t)
-    ∙ length-append (sumsX p t ++ middle) (sumsTau p t)
-    ∙ omega (arith, length-append (sumsX p t) middle, added-length one (sumsS p t) (sumsY p t), sumsX-length p t k, sumsY-length p t k, sumsTau-length p t k)
+    let middle = added one (sumsS (embed p) t) (sumsY (embed p) t) in
+    diagonal-length (p .par .«eps_zero») (sumsX (embed p) t ++ middle ++ sumsTau (embed p) t)
+    ∙ length-append (sumsX (embed p) t ++ middle) (sumsTau (embed p) t)
+    ∙ omega (arith, length-append (sumsX (embed p) t) middle, added-length one (sumsS (embed p) t) (sumsY (embed p) t), sumsX-length (embed p) t k, sumsY-length (embed p) t k, sumsTau-length (embed p) t k)
 
 pub prepared-sized : (p : Problem) → Sized p (prepared p)
 unfolding prepared
@@ -357,7 +357,7 @@ prepared-sized p =
     let hx : length longX ≡ lengthX (p .m) (p .n) = length-replicate (lengthX (p .m) (p .n)) +0 in
     let hy : length longY ≡ lengthY (p .m) (p .n) = length-replicate (lengthY (p .m) (p .n)) +0 in
     record {
-      x = startX-length p longX ∙ hx;
+      x = startX-length (embed p) longX ∙ hx;
       y = scaled-length +0 longY ∙ hy;
       dpTau = dpTauOf-length p longX hx;
       dpSigma = dpSigmaOf-length p longX hx;

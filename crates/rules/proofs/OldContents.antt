@@ -12,7 +12,7 @@ use Rattle.rules.specs.Helpers.{reciprocal}
 use Rattle.rules.specs.Arithmetic.{+0}
 use Rattle.rules.specs.Vectors.{scaled}
 use Rattle.rules.specs.Product.{coneWork}
-use Rattle.rules.specs.Problem.{Problem, blocks, lengthX, workLength}
+use Rattle.rules.specs.Problem.{Problem, embed, blocks, lengthX, workLength}
 use Rattle.rules.specs.Step.{State, xX, xY}
 use Rattle.rules.specs.Criteria.{tauOf}
 use Rattle.rules.specs.Prepare.{zeros}
@@ -30,12 +30,12 @@ unfolding finalX
 finalX-length p e x h = go (isScaled e)
   where
     by : Float
-    by = reciprocal (tauOf p x)
+    by = reciprocal (tauOf (embed p) x)
 
-    go : (t : Bool) → length (cond t (scaled by (xX p x) ++ scaled by (xY p x) ++ drop (p .n + p .m) x) x) ≡ lengthX (p .m) (p .n)
+    go : (t : Bool) → length (cond t (scaled by (xX (embed p) x) ++ scaled by (xY (embed p) x) ++ drop (p .n + p .m) x) x) ≡ lengthX (p .m) (p .n)
     go true =
-        length-append (scaled by (xX p x) ++ scaled by (xY p x)) (drop (p .n + p .m) x)
-        ∙ omega (arith, length-append (scaled by (xX p x)) (scaled by (xY p x)), scaled-length by (xX p x), scaled-length by (xY p x), xX-length p x h, xY-length p x h, length-drop (p .n + p .m) x)
+        length-append (scaled by (xX (embed p) x) ++ scaled by (xY (embed p) x)) (drop (p .n + p .m) x)
+        ∙ omega (arith, length-append (scaled by (xX (embed p) x)) (scaled by (xY (embed p) x)), scaled-length by (xX (embed p) x), scaled-length by (xY (embed p) x), xX-length (embed p) x h, xY-length (embed p) x h, length-drop (p .n + p .m) x)
     go false = h
 
 pub laidOut-length : (p : Problem) (e : Ending) (s : State) → Sized p s → length (laidOut p e s) ≡ workLength (p .m) (p .n)

@@ -14,7 +14,7 @@ use Rattle.rules.specs.Arithmetic.{_*ᶠ_}
 use Rattle.rules.specs.Blocks.{places}
 use Rattle.rules.specs.Projections.{√2, diagonalTimes, unit, projPSD, projBlock}
 use Rattle.rules.specs.Product.{Passed, projAll, isNone}
-use Rattle.rules.specs.Problem.{Problem, blocks}
+use Rattle.rules.specs.Problem.{Problem, embed, blocks}
 use Rattle.rules.specs.Step.{State, movedX, projected, updated, xX, xY, xS}
 use Rattle.rules.specs.Prepare.{Norms, preparedNorms}
 use Rattle.rules.specs.Run.{turn, run}
@@ -67,16 +67,16 @@ unfolding projected
 projected-bounded p x cone = go (isNone (first .failure)) refl
   where
     first : Passed
-    first = projAll (p .par) true (blocks p) (xY p x) cone
+    first = projAll (p .par) true (blocks p) (xY (embed p) x) cone
 
     second : Passed
-    second = projAll (p .par) false (blocks p) (xS p (xX p x ++ first .cone ++ drop (p .n + p .m) x)) (first .work)
+    second = projAll (p .par) false (blocks p) (xS (embed p) (xX (embed p) x ++ first .cone ++ drop (p .n + p .m) x)) (first .work)
 
     one : 2 * first .rotations ≤ p .par .«sweep_limit» * allPairsTwice (blocks p)
-    one = pass-bounded (p .par) true (blocks p) (xY p x) cone
+    one = pass-bounded (p .par) true (blocks p) (xY (embed p) x) cone
 
     two : 2 * second .rotations ≤ p .par .«sweep_limit» * allPairsTwice (blocks p)
-    two = pass-bounded (p .par) false (blocks p) (xS p (xX p x ++ first .cone ++ drop (p .n + p .m) x)) (first .work)
+    two = pass-bounded (p .par) false (blocks p) (xS (embed p) (xX (embed p) x ++ first .cone ++ drop (p .n + p .m) x)) (first .work)
 
     go : (t : Bool) → isNone (first .failure) ≡ t → projected p x cone .rotations ≤ p .par .«sweep_limit» * allPairsTwice (blocks p)
     go true e = rw e (omega (arith, one, two))

@@ -15,4 +15,6 @@ pub mod Accepted
 pub mod OldContents
 pub mod Demands
 pub mod Outcome
+pub mod Vectors
+pub mod Matrices
 pub mod WorkedByHand

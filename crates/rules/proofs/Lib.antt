@@ -2,5 +2,6 @@ pub mod Helpers
 pub mod Root
 pub mod RootPatterns
 pub mod Arithmetic
+pub mod Columns
 pub mod Outcome
 pub mod WorkedByHand

@@ -1,0 +1,202 @@
+// Jacobi's method and map_eig of floatgeneric.rs: the semidefinite projection.
+use rules::{Projection, SolverParam, LIMIT, SWEEPS};
+
+ghost use Prim.Native.Nat.{_+_, _-_, _*_, _≤_, _<_};
+ghost use mathlib.Core.Path.{_≡_};
+ghost use Rattle.rules.specs.Limits.{limit};
+ghost use Rattle.rules.specs.Arithmetic.{+0, each};
+ghost use Rattle.rules.specs.Jacobi.{packed, square, packedPlace, inPacked, inSquare, rotatedEntry, rotatedVector, rotated, pairDone, rowDone, sweep, isRotated};
+ghost use Rattle.rules.specs.Jacobi as rules;
+ghost use Rattle.rules.specs.Projections.{diagonalTimes, unit};
+ghost use Rattle.eig.specs.Sizes.{IsPacked, IsSquare, IsPair, mostRotations};
+ghost use Rattle.eig.specs.Turns.{state, Turned};
+
+// Where the entry of row r and column c of a packed triangle is stored.
+fn place(r: usize, c: usize) -> usize
+    requires { ⌜ r < limit ⌝ }
+    requires { ⌜ c < limit ⌝ }
+    ensures { λ p. ⌜ p ≡ packedPlace r c ⌝ }
+{
+    if r < c { c * (c + 1) / 2 + r } else { r * (r + 1) / 2 + c }
+}
+
+// The diagonal times a number.
+fn scale_diagonal(n: usize, by: f64, x: &mut [f64])
+    requires { ⌜ IsPacked n (now x) ⌝ }
+    ensures { λ _. ⌜ now (x .exit) ≡ diagonalTimes by n (now (x .entry)) ⌝ }
+{
+    for k in 0..n {
+        let p = place(k, k);
+        x[p] = x[p] * by;
+    }
+}
+
+// Every place becomes +0.
+fn clear(x: &mut [f64])
+    ensures { λ _. ⌜ now (x .exit) ≡ each (λ k v. +0) (now (x .entry)) ⌝ }
+{
+    for k in 0..x.len() {
+        x[k] = 0.0;
+    }
+}
+
+// The vectors become the unit vectors.
+fn start(n: usize, z: &mut [f64])
+    requires { ⌜ IsSquare n (now z) ⌝ }
+    ensures { λ _. ⌜ now (z .exit) ≡ unit n ⌝ }
+{
+    clear(z);
+    for k in 0..n {
+        z[k * n + k] = 1.0;
+    }
+}
+
+// Rows and columns i and j of the matrix, turned.
+fn turn_matrix(n: usize, i: usize, j: usize, c: f64, s: f64, x: &mut [f64])
+    requires { ⌜ IsPacked n (now x) ⌝ }
+    requires { ⌜ IsPair n i j ⌝ }
+    ensures { λ _. ⌜ Turned n i j c s (now (x .entry)) (now (x .exit)) ⌝ }
+{
+    for k in 0..n {
+        let p = place(k, i);
+        let q = place(k, j);
+        let xi = x[p];
+        let xj = x[q];
+        x[p] = c * xi - s * xj;
+        x[q] = s * xi + c * xj;
+    }
+}
+
+// Columns i and j of the vectors, turned.
+fn turn_vectors(n: usize, i: usize, j: usize, c: f64, s: f64, z: &mut [f64])
+    requires { ⌜ IsSquare n (now z) ⌝ }
+    requires { ⌜ IsPair n i j ⌝ }
+    ensures { λ _. ⌜ now (z .exit) ≡ square n (rotatedVector (inSquare n (now (z .entry))) i j c s) ⌝ }
+{
+    for k in 0..n {
+        let p = i * n + k;
+        let q = j * n + k;
+        let zi = z[p];
+        let zj = z[q];
+        z[p] = c * zi - s * zj;
+        z[q] = s * zi + c * zj;
+    }
+}
+
+// The matrix, rotated: what rows and columns i and j have in common is worked out from what it was.
+fn rotate_matrix(n: usize, i: usize, j: usize, c: f64, s: f64, x: &mut [f64])
+    requires { ⌜ IsPacked n (now x) ⌝ }
+    requires { ⌜ IsPair n i j ⌝ }
+    ensures { λ _. ⌜ now (x .exit) ≡ packed n (rotatedEntry (inPacked n (now (x .entry))) i j c s) ⌝ }
+{
+    let ii = place(i, i);
+    let jj = place(j, j);
+    let ij = place(i, j);
+    let a = x[ii];
+    let b = x[jj];
+    let d = x[ij];
+    turn_matrix(n, i, j, c, s, x);
+    x[ii] = c * c * a + s * s * b - 2.0 * c * s * d;
+    x[jj] = s * s * a + c * c * b + 2.0 * c * s * d;
+    x[ij] = 0.0;
+}
+
+// The tangent of the angle that makes d, the entry of row i and column j, vanish.
+fn tangent(a: f64, b: f64, d: f64) -> f64
+    ensures { λ t. ⌜ t ≡ rules.tangent a b d ⌝ }
+{
+    let zeta = (b - a) / (2.0 * d);
+    let root = float::root::root(1.0 + zeta * zeta);
+    if zeta > 0.0 { 1.0 / (zeta + root) } else { -1.0 / (-zeta + root) }
+}
+
+fn cosine(t: f64) -> f64
+    ensures { λ c. ⌜ c ≡ rules.cosine t ⌝ }
+{
+    float::reciprocal(float::root::root(1.0 + t * t))
+}
+
+// The tangent of the angle by which rows and columns i and j are turned.
+fn angle(n: usize, i: usize, j: usize, x: &[f64]) -> f64
+    requires { ⌜ IsPacked n (now x) ⌝ }
+    requires { ⌜ IsPair n i j ⌝ }
+    ensures { λ t. ⌜ t ≡ rules.tangent (inPacked n (now (x .entry)) i i) (inPacked n (now (x .entry)) j j) (inPacked n (now (x .entry)) i j) ⌝ }
+{
+    let ii = place(i, i);
+    let jj = place(j, j);
+    let ij = place(i, j);
+    tangent(x[ii], x[jj], x[ij])
+}
+
+// One rotation of matrix and vectors.
+fn rotate(n: usize, i: usize, j: usize, x: &mut [f64], z: &mut [f64])
+    requires { ⌜ IsPacked n (now x) ⌝ }
+    requires { ⌜ IsSquare n (now z) ⌝ }
+    requires { ⌜ IsPair n i j ⌝ }
+    ensures { λ _. ⌜ state (now (x .exit)) (now (z .exit)) 1 ≡ rotated n i j (state (now (x .entry)) (now (z .entry)) 0) ⌝ }
+{
+    let t = angle(n, i, j, x);
+    let c = cosine(t);
+    let s = c * t;
+    rotate_matrix(n, i, j, c, s, x);
+    turn_vectors(n, i, j, c, s, z);
+}
+
+// Whether rows and columns i and j are to be rotated.
+fn is_rotated(n: usize, tol: f64, i: usize, j: usize, x: &[f64]) -> bool
+    requires { ⌜ IsPacked n (now x) ⌝ }
+    requires { ⌜ IsPair n i j ⌝ }
+    ensures { λ r. ⌜ r ≡ isRotated n tol i j (now (x .entry)) ⌝ }
+{
+    let ii = place(i, i);
+    let jj = place(j, j);
+    let ij = place(i, j);
+    let a = x[ii];
+    let b = x[jj];
+    let d = x[ij];
+    d * d > tol * a * b && d * d > tol
+}
+
+// One pair. This and the next three take the rotations that were made before, and return those made so far.
+fn pair(n: usize, tol: f64, i: usize, j: usize, rotations: u64, x: &mut [f64], z: &mut [f64]) -> u64
+    requires { ⌜ IsPacked n (now x) ⌝ }
+    requires { ⌜ IsSquare n (now z) ⌝ }
+    requires { ⌜ IsPair n i j ⌝ }
+    requires { ⌜ rotations + 1 ≤ mostRotations ⌝ }
+    ensures { λ r. ⌜ state (now (x .exit)) (now (z .exit)) r ≡ pairDone n tol i j (state (now (x .entry)) (now (z .entry)) rotations) ⌝ }
+{
+    if is_rotated(n, tol, i, j, x) {
+        rotate(n, i, j, x, z);
+        return rotations + 1;
+    }
+    rotations
+}
+
+// The pairs of row i.
+fn sweep_row(n: usize, tol: f64, i: usize, rotations: u64, x: &mut [f64], z: &mut [f64]) -> u64
+    requires { ⌜ IsPacked n (now x) ⌝ }
+    requires { ⌜ IsSquare n (now z) ⌝ }
+    requires { ⌜ i < n ⌝ }
+    requires { ⌜ rotations + n ≤ mostRotations ⌝ }
+    ensures { λ r. ⌜ state (now (x .exit)) (now (z .exit)) r ≡ rowDone n tol i (n - (i + 1)) (state (now (x .entry)) (now (z .entry)) rotations) ⌝ }
+{
+    let mut made = rotations;
+    for j in i + 1..n {
+        made = pair(n, tol, i, j, made, x, z);
+    }
+    made
+}
+
+// Every pair.
+fn sweep(n: usize, tol: f64, rotations: u64, x: &mut [f64], z: &mut [f64]) -> u64
+    requires { ⌜ IsPacked n (now x) ⌝ }
+    requires { ⌜ IsSquare n (now z) ⌝ }
+    requires { ⌜ rotations + n * n ≤ mostRotations ⌝ }
+    ensures { λ r. ⌜ state (now (x .exit)) (now (z .exit)) r ≡ rules.sweep n tol (state (now (x .entry)) (now (z .entry)) rotations) ⌝ }
+{
+    let mut made = rotations;
+    for i in 0..n {
+        made = sweep_row(n, tol, i, made, x, z);
+    }
+    made
+}

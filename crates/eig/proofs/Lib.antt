@@ -1,2 +1,4 @@
 pub mod Small
 pub mod Diagonal
+pub mod Vectors
+pub mod Matrix

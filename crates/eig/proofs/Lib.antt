@@ -1,4 +1,6 @@
 pub mod Small
+pub mod Literals
+pub mod Angles
 pub mod Diagonal
 pub mod Vectors
 pub mod Matrix

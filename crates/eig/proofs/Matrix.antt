@@ -181,3 +181,7 @@ module _ (n i j : ℕ) (c s : Float) (x x' : List Float) (r : Turned n i j c s x
 pub rotated-stores : {n i j : ℕ} {c s : Float} {x x' : List Float} {ii jj ij : ℕ} → Turned n i j c s x x' → IsPacked n x → IsPair n i j → ii ≡ packedPlace i i → jj ≡ packedPlace j j → ij ≡ packedPlace i j → set (set (set x' ii (c *ᶠ c *ᶠ at x ii +ᶠ s *ᶠ s *ᶠ at x jj -ᶠ two *ᶠ c *ᶠ s *ᶠ at x ij)) jj (s *ᶠ s *ᶠ at x ii +ᶠ c *ᶠ c *ᶠ at x jj +ᶠ two *ᶠ c *ᶠ s *ᶠ at x ij)) ij +0 ≡ packed n (rotatedEntry (inPacked n x) i j c s)
 unfolding x₁ x₂ x₃ corner-i corner-j
 rotated-stores {n} {i} {j} {c} {s} {x} {x'} r sized pair ii jj ij = rw (ii, jj, ij) (rotated-is n i j c s x x' r sized pair)
+
+pub corners-inside : {n i j : ℕ} {x : List Float} {ii jj ij : ℕ} → IsPacked n x → IsPair n i j → ii ≡ packedPlace i i → jj ≡ packedPlace j j → ij ≡ packedPlace i j → (ii < length x) × (jj < length x) × (ij < length x)
+corners-inside {n} {i} {j} {x} sized pair ii jj ij =
+    (rw ii (cells-inside n i i x sized (omega arith) (omega arith)), rw jj (cells-inside n j j x sized (pair .inside) (pair .inside)), rw ij (cells-inside n i j x sized (omega arith) (pair .inside)))

@@ -1,14 +1,12 @@
-use borrow.Author.Needs.{needs}
+-- `eig::is_rotated` meets its contract.
 use native.Mathlib.Omega.{arith}
-use Prim.Native.Nat.{ℕ, _+_, _-_, _*_, _≤_, _<_}
-use mathlib.Core.Path.{_≡_, refl, sym, ap, _∙_}
-use lib.ListN.{length, getD, set, length-set}
+use mathlib.Core.Path.{_∙_}
 use borrow.Author.Needs.{needs}
+use Rattle.rules.specs.Matrices.{place}
+use Rattle.eig.proofs.Matrix.{corners-inside}
+use Rattle.eig.proofs.Angles.{test-on, test-off}
 use Rattle.eig.proofs.is_rotated.Statement.{statement}
 use Rattle.eig.proofs.is_rotated.Tie as tie
-use Rattle.eig.proofs.is_rotated.Reads as reads
-use Rattle.eig.proofs.is_rotated.Lts as lts
-use Rattle.eig.proofs.place.Reads as place-reads
 
 place-requires : tie.Need-place-requires
 place-requires c κs = search needs
@@ -20,28 +18,28 @@ place-requires-3 : tie.Need-place-requires-3
 place-requires-3 c κs = search needs
 
 mul-a : tie.Need-mul-a
-mul-a c = search needs
+mul-a c = omega (arith, corners-inside (c .before .before .before .before .pre .0) (c .before .before .before .before .pre .1) (c .before .before .place .ensures) (c .before .place2 .ensures) (c .place3 .ensures))
 
 shared-slice-read-a : tie.Need-shared-slice-read-a
-shared-slice-read-a c = search needs
+shared-slice-read-a c = omega (arith, corners-inside (c .before .before .before .before .before .pre .0) (c .before .before .before .before .before .pre .1) (c .before .before .before .place .ensures) (c .before .before .place2 .ensures) (c .before .place3 .ensures))
 
 mul-b : tie.Need-mul-b
-mul-b c = search needs
+mul-b c = omega (arith, corners-inside (c .before .before .before .before .before .pre .0) (c .before .before .before .before .before .pre .1) (c .before .before .before .place .ensures) (c .before .before .place2 .ensures) (c .before .place3 .ensures))
 
 shared-slice-read-b : tie.Need-shared-slice-read-b
-shared-slice-read-b c = search needs
+shared-slice-read-b c = omega (arith, corners-inside (c .before .before .before .before .before .before .pre .0) (c .before .before .before .before .before .before .pre .1) (c .before .before .before .before .place .ensures) (c .before .before .before .place2 .ensures) (c .before .before .place3 .ensures))
 
 mul-d : tie.Need-mul-d
-mul-d c = search needs
+mul-d c = omega (arith, corners-inside (c .before .before .before .before .before .before .pre .0) (c .before .before .before .before .before .before .pre .1) (c .before .before .before .before .place .ensures) (c .before .before .before .place2 .ensures) (c .before .before .place3 .ensures))
 
 shared-slice-read-d : tie.Need-shared-slice-read-d
-shared-slice-read-d c = search needs
+shared-slice-read-d c = omega (arith, corners-inside (c .before .before .before .before .before .before .before .pre .0) (c .before .before .before .before .before .before .before .pre .1) (c .before .before .before .before .before .place .ensures) (c .before .before .before .before .place2 .ensures) (c .before .before .before .place3 .ensures))
 
 returns : tie.Need-returns
-returns c = search needs
+returns c = let m = c .before .before .before .before in let a = c .before .before .before .before .before .before .before .before .args in test-on (a .n) (a .i) (a .j) (a .x .now) _ _ _ (m .before .before .place .ensures) (m .before .place2 .ensures) (m .place3 .ensures) (a .tol) (c .if1 .taken)
 
 returns-2 : tie.Need-returns-2
-returns-2 c = search needs
+returns-2 c = let m = c .before .before .before .before in let a = c .before .before .before .before .before .before .before .before .args in c .if1 .left ∙ test-off (a .n) (a .i) (a .j) (a .x .now) _ _ _ (m .before .before .place .ensures) (m .before .place2 .ensures) (m .place3 .ensures) (a .tol) (c .if1 .left)
 
 pub is-rotated-spec : {M : Type 1} → statement M
 is-rotated-spec =

@@ -4,3 +4,4 @@ pub mod Angles
 pub mod Diagonal
 pub mod Vectors
 pub mod Matrix
+pub mod Sweeps

@@ -1,17 +1,9 @@
+-- `eig::rotate` meets its contract.
 use borrow.Author.Needs.{needs}
-use native.Mathlib.Omega.{arith}
-use Prim.Native.Nat.{ℕ, _+_, _-_, _*_, _≤_, _<_}
-use mathlib.Core.Path.{_≡_, refl, sym, ap, _∙_}
-use lib.ListN.{length, getD, set, length-set}
-use borrow.Author.Needs.{needs}
+use Rattle.rules.specs.Jacobi.{cosine}
+use Rattle.eig.proofs.Sweeps.{rotated-by}
 use Rattle.eig.proofs.rotate.Statement.{statement}
 use Rattle.eig.proofs.rotate.Tie as tie
-use Rattle.eig.proofs.rotate.Reads as reads
-use Rattle.eig.proofs.rotate.Lts as lts
-use Rattle.eig.proofs.angle.Reads as angle-reads
-use Rattle.eig.proofs.cosine.Reads as cosine-reads
-use Rattle.eig.proofs.rotate_matrix.Reads as rotate-matrix-reads
-use Rattle.eig.proofs.turn_vectors.Reads as turn-vectors-reads
 
 angle-requires : tie.Need-angle-requires
 angle-requires c κs = search needs
@@ -32,7 +24,7 @@ same-length-2 : tie.Need-same-length-2
 same-length-2 c = search needs
 
 returns : tie.Need-returns
-returns c = search needs
+returns c = let a = c .before .before .before .before .before .before .before .before .before .before .before .before .before .args in rotated-by (a .n) (a .i) (a .j) (a .x .now) (a .z .now) _ _ (c .before .before .before .before .before .before .before .before .before .angle .result) (c .before .before .before .before .before .before .before .before .cosine .result) (c .before .before .before .before .before .before .before .before .before .angle .ensures) (c .before .before .before .before .before .before .before .before .cosine .ensures) (c .before .before .before .before .before .before .rotate-matrix .ensures) (c .before .before .turn-vectors .ensures)
 
 pub rotate-spec : {M : Type 1} → statement M
 rotate-spec =

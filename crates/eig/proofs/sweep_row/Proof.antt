@@ -1,28 +1,26 @@
+-- `eig::sweep_row` meets its contract.
+use Prim.Native.Nat.{_+_, _-_, _≤_}
 use borrow.Author.Needs.{needs}
-use native.Mathlib.Omega.{arith}
-use Prim.Native.Nat.{ℕ, _+_, _-_, _*_, _≤_, _<_}
-use mathlib.Core.Path.{_≡_, refl, sym, ap, _∙_}
-use lib.ListN.{length, getD, set, length-set}
+use Rattle.eig.specs.Sizes.{mostRotations}
+use Rattle.eig.specs.Turns.{state}
+use Rattle.eig.proofs.Sweeps.{RowTo, row-first, row-next, row-last}
 use Rattle.eig.proofs.sweep_row.Statement.{statement}
 use Rattle.eig.proofs.sweep_row.Tie as tie
-use Rattle.eig.proofs.sweep_row.Reads as reads
-use Rattle.eig.proofs.sweep_row.Lts as lts
-use Rattle.eig.proofs.pair.Reads as pair-reads
 
 abbrev Inv-loop : tie.InvT-loop
-Inv-loop n tol i rotations x₀ z₀ made₀ j₀ x z made j = ?
+Inv-loop n tol i rotations x₀ z₀ made₀ j₀ x z made j = RowTo n tol i j (state x₀ z₀ rotations) x z made × (rotations + n ≤ mostRotations)
 
 abbrev μ-loop : tie.MeasureT-loop
-μ-loop n tol i rotations x₀ z₀ made₀ j₀ x z made j = ?
+μ-loop n tol i rotations x₀ z₀ made₀ j₀ x z made j = n - j
 
 add-j : tie.Need-add-j Inv-loop μ-loop
 add-j c = search needs
 
 loop-holds : tie.Need-loop-holds Inv-loop μ-loop
-loop-holds c = search needs
+loop-holds c = let s = c .before .before in (row-first (s .args .n) (s .args .tol) (s .args .i) (s .args .x .now) (s .args .z .now) (s .args .rotations) (search needs) (search needs) (search needs), search needs)
 
 pair-requires : tie.Need-pair-requires Inv-loop μ-loop
-pair-requires c κs = search needs
+pair-requires c κs = ?
 
 add-j-2 : tie.Need-add-j-2 Inv-loop μ-loop
 add-j-2 c = search needs
@@ -31,7 +29,10 @@ loop-less : tie.Need-loop-less Inv-loop μ-loop
 loop-less c = search needs
 
 loop-again : tie.Need-loop-again Inv-loop μ-loop
-loop-again c = search needs
+loop-again c = 
+    let m = c .before .before .before .before .before .before .before in
+    let r = m .before .loop .inv .0 in
+    (row-next r _ _ _ (c .before .before .before .before .pair .ensures) (search needs) (search needs) (m .loop-test .taken), search needs)
 
 same-length : tie.Need-same-length Inv-loop μ-loop
 same-length c = search needs
@@ -40,7 +41,7 @@ same-length-2 : tie.Need-same-length-2 Inv-loop μ-loop
 same-length-2 c = search needs
 
 returns : tie.Need-returns Inv-loop μ-loop
-returns c = search needs
+returns c = row-last (c .before .loop .inv .0) (search needs)
 
 pub sweep-row-spec : {M : Type 1} → statement M
 sweep-row-spec =

@@ -1,9 +1,11 @@
 -- `eig::sweep_row` meets its contract.
 use Prim.Native.Nat.{_+_, _-_, _≤_}
+use native.Mathlib.Omega.{arith}
 use borrow.Author.Needs.{needs}
+use Rattle.rules.specs.Jacobi.{packed, square}
 use Rattle.eig.specs.Sizes.{mostRotations}
 use Rattle.eig.specs.Turns.{state}
-use Rattle.eig.proofs.Sweeps.{RowTo, row-first, row-next, row-last}
+use Rattle.eig.proofs.Sweeps.{RowTo, row-first, row-made, row-next, row-last}
 use Rattle.eig.proofs.sweep_row.Statement.{statement}
 use Rattle.eig.proofs.sweep_row.Tie as tie
 
@@ -20,7 +22,10 @@ loop-holds : tie.Need-loop-holds Inv-loop μ-loop
 loop-holds c = let s = c .before .before in (row-first (s .args .n) (s .args .tol) (s .args .i) (s .args .x .now) (s .args .z .now) (s .args .rotations) (search needs) (search needs) (search needs), search needs)
 
 pair-requires : tie.Need-pair-requires Inv-loop μ-loop
-pair-requires c κs = ?
+pair-requires c κs = 
+    let m = c .before .before in
+    let r = m .before .loop .inv .0 in
+    (r .packed, (r .square, (record { rising = r .from; inside = m .loop-test .taken }, omega (arith, row-made r, m .before .loop .inv .1, r .from, m .loop-test .taken))))
 
 add-j-2 : tie.Need-add-j-2 Inv-loop μ-loop
 add-j-2 c = search needs

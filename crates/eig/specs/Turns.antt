@@ -1,10 +1,13 @@
 -- What the loops of Jacobi's method leave.
 use Prim.Native.Nat.{ℕ, _+_, _*_, _<_, _≤_}
 use mathlib.Core.Path.{_≡_}
+use mathlib.Core.Bool.{Bool, cond}
 use mathlib.Core.List.{List, _++_}
-use lib.Ieee.{Float, mul}
+use lib.Dec.{eqb}
+use lib.Ieee.{Float, add, mul}
 use lib.ListN.{length, take, drop}
-use Rattle.rules.specs.Arithmetic.{at, byColumns, tabulate}
+use Rattle.rules.specs.Arithmetic.{_+ᶠ_, _*ᶠ_, at, byColumns, tabulate}
+use Rattle.rules.specs.Matrices.{entry}
 use Rattle.rules.specs.Helpers.{reciprocal}
 use Rattle.rules.specs.Jacobi.{Turning, Swept, packed, inPacked, inSquare, packedPlace, turnedFirst, turnedSecond, sweeps}
 use Rattle.rules.specs.Projections.{√2, diagonalTimes, unit, rebuiltEntry}
@@ -26,12 +29,39 @@ pub record Turned (k i j : ℕ) (c s : Float) (x x' : List Float) : Type 0 where
   pub others : (p q : ℕ) → (p ≡ i → ⊥) → (p ≡ j → ⊥) → (q ≡ i → ⊥) → (q ≡ j → ⊥) → cell x' p q ≡ cell x p q
 
 
+-- ---- the matrix built anew
+
+-- e times the product of the column's entries r and c, added to what stands there
+abbrev pub added : Float → List Float → List Float → ℕ → ℕ → Float
+added e column x r c = e *ᶠ at column r *ᶠ at column c +ᶠ inPacked (length column) x r c
+
+-- added in column c alone, and in all
+unfoldable pub plusColumn : Float → List Float → ℕ → List Float → List Float
+unfolding byColumns entry add mul
+plusColumn e column c x = packed (length column) (λ r q. cond (eqb q c) (added e column x r q) (inPacked (length column) x r q))
+
+unfoldable pub plusRank1 : Float → List Float → List Float → List Float
+unfolding byColumns entry add mul
+plusRank1 e column x = packed (length column) (added e column x)
+
 -- ---- the two halves of the projection
+
+abbrev pub swept : Turning → Bool → Swept
+swept turning succeeded = record { turning = turning; succeeded = succeeded }
 
 -- the sweeps over a block
 abbrev pub sweptBlock : ℕ → Float → ℕ → List Float → Swept
 sweptBlock n tol limit x = sweeps n tol limit (state (diagonalTimes √2 n x) (unit n) 0)
 
--- the vectors in cone work
-abbrev pub vectorsIn : ℕ → List Float → List Float
-vectorsIn n work = take (n * n) (drop n work)
+pub record SweptBlock (n : ℕ) (ruled : Swept) (work : List Float) (rotations : ℕ) (succeeded : Bool) (x' work' : List Float) : Type 0 where
+  pub block : x' ≡ ruled .turning .matrix
+  pub cone-work : work' ≡ take n work ++ ruled .turning .vectors ++ drop (n + n * n) work
+  pub count : rotations ≡ ruled .turning .rotations
+  pub ended : succeeded ≡ ruled .succeeded
+
+abbrev pub valueOf : ℕ → List Float → ℕ → Float
+valueOf n x i = inPacked n x i i
+
+pub record RebuiltBlock (n : ℕ) (x work x' work' : List Float) : Type 0 where
+  pub block : x' ≡ diagonalTimes (reciprocal √2) n (packed n (rebuiltEntry (valueOf n x) (inSquare n (drop n work)) n))
+  pub cone-work : work' ≡ tabulate n (valueOf n x) ++ drop n work

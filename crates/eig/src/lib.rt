@@ -3,13 +3,15 @@ use rules::{Projection, SolverParam, LIMIT, SWEEPS};
 
 ghost use Prim.Native.Nat.{_+_, _-_, _*_, _≤_, _<_};
 ghost use mathlib.Core.Path.{_≡_};
-ghost use Rattle.rules.specs.Limits.{limit};
-ghost use Rattle.rules.specs.Arithmetic.{+0, each};
-ghost use Rattle.rules.specs.Jacobi.{packed, square, packedPlace, inPacked, inSquare, rotatedEntry, rotatedVector, rotated, pairDone, rowDone, sweep, isRotated};
+ghost use lib.ListN.{length, drop};
+ghost use Rattle.rules.specs.Limits.{limit, mostSweeps};
+ghost use Rattle.rules.specs.Arithmetic.{+0, at, each, tabulate};
+ghost use Rattle.rules.specs.Jacobi.{packed, square, packedPlace, inPacked, inSquare, rotatedEntry, rotatedVector, rotated, pairDone, rowDone, isRotated, sweeps};
 ghost use Rattle.rules.specs.Jacobi as rules;
-ghost use Rattle.rules.specs.Projections.{diagonalTimes, unit};
+ghost use Rattle.rules.specs.Projections.{diagonalTimes, unit, rebuiltEntry, projPSD, blockFits, BlockOutcome};
+ghost use Rattle.rules.specs.declared.Cone.the-variants.{PSD};
 ghost use Rattle.eig.specs.Sizes.{IsPacked, IsSquare, IsPair, mostRotations};
-ghost use Rattle.eig.specs.Turns.{state, Turned};
+ghost use Rattle.eig.specs.Turns.{state, swept, Turned, plusColumn, plusRank1, sweptBlock, SweptBlock, RebuiltBlock};
 
 // Where the entry of row r and column c of a packed triangle is stored.
 fn place(r: usize, c: usize) -> usize
@@ -199,4 +201,139 @@ fn sweep(n: usize, tol: f64, rotations: u64, x: &mut [f64], z: &mut [f64]) -> u6
         made = sweep_row(n, tol, i, made, x, z);
     }
     made
+}
+
+// What the sweeps answer: the rotations that were made, and whether a sweep made none.
+struct Swept {
+    rotations: u64,
+    succeeded: bool,
+}
+
+// Sweeps until one makes no rotation, or the limit is reached.
+fn jacobi_eig(n: usize, tol: f64, sweep_limit: u64, x: &mut [f64], z: &mut [f64]) -> Swept
+    requires { ⌜ IsPacked n (now x) ⌝ }
+    requires { ⌜ IsSquare n (now z) ⌝ }
+    requires { ⌜ «sweep_limit» ≤ mostSweeps ⌝ }
+    ensures { λ r. ⌜ swept (state (now (x .exit)) (now (z .exit)) (r .rotations)) (r .succeeded) ≡ sweeps n tol «sweep_limit» (state (now (x .entry)) (now (z .entry)) 0) ⌝ }
+{
+    let mut made = 0;
+    for k in 0..sweep_limit {
+        let before = made;
+        made = sweep(n, tol, before, x, z);
+        if made == before {
+            return Swept { rotations: made, succeeded: true };
+        }
+    }
+    Swept { rotations: made, succeeded: false }
+}
+
+// The eigenvalues are what the diagonal holds.
+fn eigenvalues(n: usize, x: &[f64], w: &mut [f64])
+    requires { ⌜ IsPacked n (now x) ⌝ }
+    requires { ⌜ length (now w) ≡ n ⌝ }
+    ensures { λ _. ⌜ now (w .exit) ≡ tabulate n (λ i. inPacked n (now (x .entry)) i i) ⌝ }
+{
+    for k in 0..n {
+        let p = place(k, k);
+        w[k] = x[p];
+    }
+}
+
+// Column c of x, plus e times the product of z's entries.
+fn rank1op_column(e: f64, z: &[f64], c: usize, x: &mut [f64])
+    requires { ⌜ IsPacked (length (now z)) (now x) ⌝ }
+    requires { ⌜ c < length (now z) ⌝ }
+    ensures { λ _. ⌜ now (x .exit) ≡ plusColumn e (now (z .entry)) c (now (x .entry)) ⌝ }
+{
+    for r in 0..c + 1 {
+        let p = place(r, c);
+        x[p] = e * z[r] * z[c] + x[p];
+    }
+}
+
+// x plus e times z times z, turned over.
+fn rank1op(e: f64, z: &[f64], x: &mut [f64])
+    requires { ⌜ IsPacked (length (now z)) (now x) ⌝ }
+    ensures { λ _. ⌜ now (x .exit) ≡ plusRank1 e (now (z .entry)) (now (x .entry)) ⌝ }
+{
+    for c in 0..z.len() {
+        rank1op_column(e, z, c, x);
+    }
+}
+
+// The matrix, of the eigenvalues above 0 and their vectors.
+fn rebuild(n: usize, work: &[f64], x: &mut [f64])
+    requires { ⌜ IsPacked n (now x) ⌝ }
+    requires { ⌜ n + n * n ≤ length (now work) ⌝ }
+    ensures { λ _. ⌜ now (x .exit) ≡ packed n (rebuiltEntry (at (now (work .entry))) (inSquare n (drop n (now (work .entry)))) n) ⌝ }
+{
+    clear(x);
+    for k in 0..n {
+        let e = work[k];
+        if e > 0.0 {
+            let from = n + k * n;
+            rank1op(e, &work[from..from + n], x);
+        }
+    }
+}
+
+// The first half of the projection: the sweeps.
+fn sweep_block(n: usize, tol: f64, sweep_limit: u64, mat: &mut [f64], work: &mut [f64]) -> Swept
+    requires { ⌜ IsPacked n (now mat) ⌝ }
+    requires { ⌜ n + n * n ≤ length (now work) ⌝ }
+    requires { ⌜ «sweep_limit» ≤ mostSweeps ⌝ }
+    ensures { λ r. ⌜ SweptBlock n (sweptBlock n tol «sweep_limit» (now (mat .entry))) (now (work .entry)) (r .rotations) (r .succeeded) (now (mat .exit)) (now (work .exit)) ⌝ }
+{
+    scale_diagonal(n, 1.4142135623730951, mat);
+    start(n, &mut work[n..n + n * n]);
+    jacobi_eig(n, tol, sweep_limit, mat, &mut work[n..n + n * n])
+}
+
+// The second half: eigenvalues, and the matrix built anew.
+fn rebuild_block(n: usize, mat: &mut [f64], work: &mut [f64])
+    requires { ⌜ IsPacked n (now mat) ⌝ }
+    requires { ⌜ n + n * n ≤ length (now work) ⌝ }
+    ensures { λ _. ⌜ RebuiltBlock n (now (mat .entry)) (now (work .entry)) (now (mat .exit)) (now (work .exit)) ⌝ }
+{
+    eigenvalues(n, mat, &mut work[0..n]);
+    rebuild(n, work, mat);
+    scale_diagonal(n, float::reciprocal(1.4142135623730951), mat);
+}
+
+// Whether the sizes and the sweep limit fit.
+fn fits(par: SolverParam, order: usize, mat: &[f64], work: &[f64]) -> bool
+    ensures { λ r. ⌜ r ≡ blockFits par (PSD order) (now (mat .entry)) (now (work .entry)) ⌝ }
+{
+    if order > LIMIT {
+        return false;
+    }
+    let size = order * (order + 1) / 2;
+    if size > LIMIT {
+        return false;
+    }
+    if mat.len() != size {
+        return false;
+    }
+    if work.len() < order + order * order {
+        return false;
+    }
+    if par.sweep_limit < 1 {
+        return false;
+    }
+    par.sweep_limit <= SWEEPS
+}
+
+// The projection of a semidefinite block.
+pub fn map_eig(par: SolverParam, order: usize, mat: &mut [f64], work: &mut [f64]) -> Projection
+    ensures { λ r. ⌜ BlockOutcome (blockFits par (PSD order) (now (mat .entry)) (now (work .entry))) (projPSD par order (now (mat .entry)) (now (work .entry))) (now (mat .entry)) (now (work .entry)) r (now (mat .exit)) (now (work .exit)) ⌝ }
+{
+    if !fits(par, order, mat, work) {
+        return Projection::No;
+    }
+    let swept = sweep_block(order, par.eps_zero * par.eps_zero, par.sweep_limit, mat, work);
+    if !swept.succeeded {
+        return Projection::Failed(swept.rotations);
+    }
+    rebuild_block(order, mat, work);
+    Projection::Done(swept.rotations)
 }

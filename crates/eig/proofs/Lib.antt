@@ -5,3 +5,4 @@ pub mod Diagonal
 pub mod Vectors
 pub mod Matrix
 pub mod Sweeps
+pub mod Rank1

@@ -1,17 +1,20 @@
 -- One rotation, and the loops over pairs, rows and sweeps: before the first turn, at a turn, after the last.
-use Prim.Native.Nat.{ℕ, _+_, _-_, _*_, _<_, _≤_}
+use Prim.Native.Nat.{ℕ, suc, _+_, _-_, _*_, _<_, _≤_}
 use native.Mathlib.Omega.{arith}
-use native.Mathlib.Nat.{mul-le-mul, mul-add, add-mul}
+use native.Mathlib.Nat.{mul-le-mul, mul-le-mul-left, add-mul}
 use mathlib.Core.Path.{_≡_, refl, sym, _∙_, ap}
 use mathlib.Core.Bool.{Bool, true, false, cond}
 use mathlib.Core.List.{List}
+use borrow.Author.Tests.{eq-eqb, ne-eqb}
+use lib.Dec.{eqb}
 use lib.Ieee.{Float}
 use Rattle.rules.specs.Arithmetic.{_*ᶠ_}
-use Rattle.rules.specs.Limits.{limit}
-use Rattle.rules.specs.Jacobi.{Turning, packed, square, inPacked, inSquare, tangent, cosine, rotatedEntry, rotatedVector, rotated, isRotated, pairDone, rowDone, rowsDone, sweep}
+use Rattle.rules.specs.Limits.{limit, mostSweeps}
+use Rattle.rules.specs.Jacobi.{Turning, packed, square, inPacked, inSquare, tangent, cosine, rotatedEntry, rotatedVector, rotated, isRotated, pairDone, rowDone, rowsDone, sweep, sweeps}
 use Rattle.rules.proofs.Jacobi.{row-none, row-more, row-bounded, rows-none, rows-more, sweep-bounded, pairs}
 use Rattle.eig.specs.Sizes.{IsPacked, IsSquare, IsPair, mostRotations}
-use Rattle.eig.specs.Turns.{state}
+use Rattle.eig.specs.Turns.{state, swept}
+use Rattle.eig.proofs.Small.{product-small}
 
 -- ---- a pair
 
@@ -104,3 +107,71 @@ pub sweep-last : {n : ℕ} {tol : Float} {i : ℕ} {m : Turning} {x z : List Flo
 sweep-last {n} {tol} {i} {m} r h =
     let all : i ≡ n = omega (arith, r .to) in
     r .is ∙ ap (λ (k : ℕ). rowsDone n tol k m) all
+
+-- ---- sweeps until one makes no rotation: what is left to do equals the whole
+
+pub record SweepsTo (n : ℕ) (tol : Float) (most k : ℕ) (m : Turning) (x z : List Float) (made : ℕ) : Type 0 where
+  pub left : sweeps n tol (most - k) (state x z made) ≡ sweeps n tol most m
+  pub packed : IsPacked n x
+  pub square : IsSquare n z
+  pub to : k ≤ most
+  pub made-most : made ≤ k * (n * n)
+
+pub sweeps-first : (n : ℕ) (tol : Float) (most : ℕ) (x z : List Float) → IsPacked n x → IsSquare n z → SweepsTo n tol most 0 (state x z 0) x z 0
+sweeps-first n tol most x z packed square =
+    let all : most - 0 ≡ most = omega arith in
+    record {
+      left = ap (λ (k : ℕ). sweeps n tol k (state x z 0)) all;
+      packed = packed;
+      square = square;
+      to = omega arith;
+      made-most = omega arith;
+    }
+
+-- room for a sweep's rotations
+pub sweeps-room : {n : ℕ} {tol : Float} {most k : ℕ} {m : Turning} {x z : List Float} {made : ℕ} → SweepsTo n tol most k m x z made → k < most → most ≤ mostSweeps → made + n * n ≤ mostRotations
+sweeps-room {n} {tol} {most} {k} r h few =
+    let turns : k + 1 ≤ mostSweeps = omega arith in
+    let l : (k + 1) * (n * n) ≤ mostSweeps * (limit * limit) = mul-le-mul {n₂ = mostSweeps} {m₂ = limit * limit} turns (product-small n n (r .packed .order) (r .packed .order)) in
+    omega (arith, r .made-most, l, add-mul k 1 (n * n))
+
+-- fewer pairs than entries
+pairs-few : (n : ℕ) → pairs n ≤ n * n
+pairs-few n =
+    let less : n - 1 ≤ n = omega arith in
+    omega (arith, mul-le-mul-left n less)
+
+sweeps-by : (n : ℕ) (tol : Float) (most k : ℕ) (m : Turning) (b : Bool) → k < most → eqb ((sweep n tol m) .rotations) (m .rotations) ≡ b → sweeps n tol (most - k) m ≡ cond b (swept (sweep n tol m) true) (sweeps n tol (most - (k + 1)) (sweep n tol m))
+unfolding sweeps
+sweeps-by n tol most k m b h e =
+    let more : most - k ≡ suc (most - (k + 1)) = omega arith in
+    ap (λ (l : ℕ). sweeps n tol l m) more ∙ ap (λ (t : Bool). cond t (swept (sweep n tol m) true) (sweeps n tol (most - (k + 1)) (sweep n tol m))) e
+
+module _ {n : ℕ} {tol : Float} {most k : ℕ} {m : Turning} {x z : List Float} {made : ℕ} (r : SweepsTo n tol most k m x z made) (h : k < most) (x' z' : List Float) (made' : ℕ) (e : state x' z' made' ≡ sweep n tol (state x z made)) where
+  count : made' ≡ (sweep n tol (state x z made)) .rotations
+  count = ap (λ (t : Turning). t .rotations) e
+
+  pub sweeps-stop : made' ≡ made → swept (state x' z' made') true ≡ sweeps n tol most m
+  sweeps-stop same =
+      ap (λ (t : Turning). swept t true) e
+      ∙ sym (sweeps-by n tol most k (state x z made) true h (eq-eqb ((sweep n tol (state x z made)) .rotations) made (sym count ∙ same)))
+      ∙ r .left
+
+  pub sweeps-next : (made' ≡ made → ⊥) → IsPacked n x' → IsSquare n z' → SweepsTo n tol most (k + 1) m x' z' made'
+  sweeps-next differ packed square =
+      record {
+        left =
+            ap (λ (t : Turning). sweeps n tol (most - (k + 1)) t) e
+            ∙ sym (sweeps-by n tol most k (state x z made) false h (ne-eqb ((sweep n tol (state x z made)) .rotations) made (λ u. differ (count ∙ u))))
+            ∙ r .left;
+        packed = packed;
+        square = square;
+        to = omega arith;
+        made-most = omega (arith, r .made-most, count, sweep-bounded n tol (state x z made), add-mul k 1 (n * n), pairs-few n);
+      }
+
+pub sweeps-out : {n : ℕ} {tol : Float} {most k : ℕ} {m : Turning} {x z : List Float} {made : ℕ} → SweepsTo n tol most k m x z made → most ≤ k → swept (state x z made) false ≡ sweeps n tol most m
+unfolding sweeps
+sweeps-out {n} {tol} {most} {k} {m} {x} {z} {made} r h =
+    let none : most - k ≡ 0 = omega arith in
+    sym (ap (λ (l : ℕ). sweeps n tol l (state x z made)) none) ∙ r .left

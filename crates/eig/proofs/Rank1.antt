@@ -11,6 +11,7 @@ use lib.Dec.{ltb, eqb}
 use lib.Ieee.{Float, nan, lt}
 use lib.ListN.{length, set, take, drop, length-set, length-take, length-drop}
 use lib.Seq.{getD-drop, getD-take}
+use Rattle.rules.specs.Limits.{limit}
 use Rattle.rules.specs.Arithmetic.{_+ᶠ_, _*ᶠ_, +0, at, each, tabulate}
 use Rattle.rules.specs.Matrices.{triangle}
 use Rattle.rules.specs.Jacobi.{packed, inPacked, inSquare, packedPlace}
@@ -19,6 +20,7 @@ use Rattle.rules.proofs.Arithmetic.{Reached, reached-all, each-length, each-at}
 use Rattle.rules.proofs.Columns.{by-less, by-same, tabulate-is, packed-self, packed-same, packed-is, packed-at, packed-length, packed-set, packedPlace-le, inPacked-at, inPacked-place, inSquare-place, triangle-inside}
 use Rattle.eig.specs.Sizes.{IsPacked}
 use Rattle.eig.specs.Turns.{added, plusColumn, plusRank1}
+use Rattle.eig.proofs.Small.{product-small}
 
 -- an entry of a list that is known by its entries
 pub entry-of : (n : ℕ) (f : ℕ → ℕ → Float) (x : List Float) → x ≡ packed n f → (r c : ℕ) → r ≤ c → c < n → inPacked n x r c ≡ f r c
@@ -158,18 +160,21 @@ rebuilt-off {n} {work} {k} {x} r h off =
     }
 
 -- vector k, as it is lent
-pub lent : ℕ → List Float → ℕ → List Float
+unfoldable pub lent : ℕ → List Float → ℕ → List Float
 lent n work k = take (n + k * n + n - (n + k * n)) (drop (n + k * n) work)
 
-module _ {n : ℕ} {work : List Float} {k : ℕ} (room : n + n * n ≤ length work) (h : k < n) where
-  inside : n + k * n + n ≤ length work
-  inside =
+module _ (n : ℕ) (work : List Float) (k : ℕ) (room : n + n * n ≤ length work) (h : k < n) where
+  fits : n + k * n + n ≤ n + n * n
+  fits =
       let l : (k + 1) * n ≤ n * n = mul-le-mul (omega arith) (omega arith) in
       omega (arith, l, add-mul k 1 n)
 
+  pub lent-inside : n ≤ limit → (n + k * n + n ≤ length work) × (n + k * n + n ≤ limit + limit * limit)
+  lent-inside small = omega (arith, fits, product-small n n small small)
+
   pub lent-length : length (lent n work k) ≡ n
   unfolding lent
-  lent-length = simp (length-take, length-drop) (omega (arith, inside))
+  lent-length = simp (length-take, length-drop) (omega (arith, fits))
 
   lent-at : (r : ℕ) → r < n → at (lent n work k) r ≡ inSquare n (drop n work) r k
   unfolding lent

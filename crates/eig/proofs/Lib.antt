@@ -6,3 +6,4 @@ pub mod Vectors
 pub mod Matrix
 pub mod Sweeps
 pub mod Rank1
+pub mod Halves

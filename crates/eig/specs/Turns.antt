@@ -58,6 +58,7 @@ pub record SweptBlock (n : ℕ) (ruled : Swept) (work : List Float) (rotations :
   pub cone-work : work' ≡ take n work ++ ruled .turning .vectors ++ drop (n + n * n) work
   pub count : rotations ≡ ruled .turning .rotations
   pub ended : succeeded ≡ ruled .succeeded
+  pub stored : length (ruled .turning .vectors) ≡ n * n
 
 abbrev pub valueOf : ℕ → List Float → ℕ → Float
 valueOf n x i = inPacked n x i i

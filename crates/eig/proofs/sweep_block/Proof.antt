@@ -1,16 +1,8 @@
+-- `eig::sweep_block` meets its contract.
 use borrow.Author.Needs.{needs}
-use native.Mathlib.Omega.{arith}
-use Prim.Native.Nat.{ℕ, _+_, _-_, _*_, _≤_, _<_}
-use mathlib.Core.Path.{_≡_, refl, sym, ap, _∙_}
-use lib.ListN.{length, getD, set, length-set}
-use borrow.Author.Needs.{needs}
+use Rattle.eig.proofs.Halves.{swept-block}
 use Rattle.eig.proofs.sweep_block.Statement.{statement}
 use Rattle.eig.proofs.sweep_block.Tie as tie
-use Rattle.eig.proofs.sweep_block.Reads as reads
-use Rattle.eig.proofs.sweep_block.Lts as lts
-use Rattle.eig.proofs.jacobi_eig.Reads as jacobi-eig-reads
-use Rattle.eig.proofs.scale_diagonal.Reads as scale-diagonal-reads
-use Rattle.eig.proofs.start.Reads as start-reads
 
 scale-diagonal-requires : tie.Need-scale-diagonal-requires
 scale-diagonal-requires c κs = search needs
@@ -64,7 +56,9 @@ same-length-2 : tie.Need-same-length-2
 same-length-2 c = search needs
 
 returns : tie.Need-returns
-returns c = search needs
+returns c = 
+    let a = c .before .before .before .before .before .before .before .before .before .before .before .before .before .before .before .before .before .args in
+    swept-block (a .n) (a .tol) (a .«sweep-limit») (a .mat .now) (a .work .now) _ _ _ _ _ _ (c .before .before .before .before .before .before .before .before .before .before .before .before .before .before .before .before .before .pre .1 .0) (c .before .before .before .before .before .before .before .before .before .before .before .before .before .scale-diagonal .ensures) (c .before .before .before .before .before .before .before .before .before .start .ensures) (c .before .before .before .before .jacobi-eig .ensures) (c .before .before .before .before .jacobi-eig .kept .1 .1 .1 .1 .0)
 
 pub sweep-block-spec : {M : Type 1} → statement M
 sweep-block-spec =

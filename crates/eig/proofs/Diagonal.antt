@@ -32,8 +32,8 @@ diagonal-elsewhere : (new old : ℕ → ℕ → Float) (k p q : ℕ) → (p ≡ 
 diagonal-elsewhere new old k p q apart =
     by-same p q
     (λ e.
-      let ne : q ≡ k → ⊥ = λ u. apart (e ∙ u) u in
-      by-less q k (λ l. rw (lt-ltb q k l, lt-ltb q (k + 1) (omega arith))) (λ l. rw (le-ltb q k l, le-ltb q (k + 1) (omega (arith, far q k l ne)))))
+    let ne : q ≡ k → ⊥ = λ u. apart (e ∙ u) u in
+    by-less q k (λ l. rw (lt-ltb q k l, lt-ltb q (k + 1) (omega arith))) (λ l. rw (le-ltb q k l, le-ltb q (k + 1) (omega (arith, far q k l ne)))))
     (λ n. rw (ne-eqb p q n))
   where
     far : (q k : ℕ) → k ≤ q → (q ≡ k → ⊥) → k < q
@@ -69,9 +69,9 @@ scaled-more {by} {n} {k} {p} {x} {x'} r h e =
     let where' : p ≡ triangle k + k = e ∙ packedPlace-le k k (omega arith) in
     let held : at x' (triangle k + k) ≡ inPacked n x k k = ap (λ (l : List Float). at l (triangle k + k)) (r .is) ∙ packed-at n (diagonalTo (times by n x) (inPacked n x) k) k k (omega arith) h ∙ diagonal-yet (times by n x) (inPacked n x) k in
     let stored : set x' (triangle k + k) (at x' (triangle k + k) *ᶠ by) ≡ packed n (diagonalTo (times by n x) (inPacked n x) (k + 1)) =
-        packed-set (diagonalTo (times by n x) (inPacked n x) (k + 1)) k k (at x' (triangle k + k) *ᶠ by) (r .is) (omega arith) h
-        (rw held (diagonal-here (times by n x) (inPacked n x) k))
-        (λ p q hp hq apart. diagonal-elsewhere (times by n x) (inPacked n x) k p q apart) in
+    packed-set (diagonalTo (times by n x) (inPacked n x) (k + 1)) k k (at x' (triangle k + k) *ᶠ by) (r .is) (omega arith) h
+    (rw held (diagonal-here (times by n x) (inPacked n x) k))
+    (λ p q hp hq apart. diagonal-elsewhere (times by n x) (inPacked n x) k p q apart) in
     record { is = rw where' stored; same = length-set x' p (at x' p *ᶠ by) ∙ r .same; within = omega arith }
 
 pub scaled-all : {by : Float} {n k : ℕ} {x x' : List Float} → ScaledTo by n k x x' → n ≤ k → x' ≡ diagonalTimes by n x
@@ -93,7 +93,7 @@ unit-none n old z stored e =
       is =
           square-is n (diagonalTo (λ r c. one) (λ r c. +0) 0) z same
           (λ r c hr hc.
-            ap (λ (l : List Float). at l (c * n + r)) e ∙ each-at (λ k v. +0) old (c * n + r) (omega (arith, square-inside n r c hr hc)) ∙ sym (diagonal-first (λ r c. one) (λ r c. +0) r c));
+          ap (λ (l : List Float). at l (c * n + r)) e ∙ each-at (λ k v. +0) old (c * n + r) (omega (arith, square-inside n r c hr hc)) ∙ sym (diagonal-first (λ r c. one) (λ r c. +0) r c));
       same = same;
       within = omega arith;
     }

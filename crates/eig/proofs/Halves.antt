@@ -2,21 +2,28 @@
 use Prim.Native.Nat.{ℕ, zero, suc, _+_, _-_, _*_, _<_, _≤_}
 use native.Mathlib.Omega.{arith}
 use mathlib.Core.Path.{_≡_, refl, sym, _∙_, ap}
-use mathlib.Core.Bool.{Bool, true, false, cond}
+use mathlib.Core.Bool.{Bool, true, false, cond, _&&_, false≢true}
 use mathlib.Core.List.{List, _++_, append-assoc}
+use borrow.Author.Tests.{leb-true, eqb-true}
 use borrow.Rule.Slice.PartMut.{putMid, postOf, post-is, take-put, drop-put}
+use lib.Dec.{leb, eqb}
 use lib.Ieee.{Float, binary64, ofBits, nan, lt}
 use lib.ListN.{length, take, drop, length-append, List·getD-append}
 use lib.Seq.{take-at, drop-at, length-take-le}
+use Rattle.rules.specs.Limits.{limit, mostSweeps}
 use Rattle.rules.specs.Helpers.{reciprocal}
 use Rattle.rules.specs.Arithmetic.{_+ᶠ_, _*ᶠ_, +0, at, tabulate}
+use Rattle.rules.specs.Matrices.{triangle}
 use Rattle.rules.specs.Jacobi.{Turning, Swept, packed, inSquare, sweeps}
-use Rattle.rules.specs.Projections.{√2, diagonalTimes, unit, rebuiltEntry, projPSD, Projected, answerOf, BlockOutcome}
+use Rattle.rules.specs.Projections.{√2, diagonalTimes, unit, rebuiltEntry, projPSD, Projected, sweepsFit, blockFits, answerOf, BlockOutcome}
+use Rattle.rules.specs.declared.Cone.the-variants.{PSD}
 use Rattle.rules.specs.declared.Projection.{Projection}
 use Rattle.rules.specs.declared.Projection.the-variants.{Done, Failed, No}
 use Rattle.rules.specs.declared.SolverParam.{SolverParam}
-use Rattle.rules.proofs.Columns.{tabulate-length, tabulate-at, packed-same, square-length, square-inside, inSquare-place}
+use Rattle.rules.proofs.Columns.{by-less, tabulate-length, tabulate-at, packed-same, square-length, square-inside, inSquare-place}
+use Rattle.eig.specs.Sizes.{IsPacked}
 use Rattle.eig.specs.Turns.{state, swept, sweptBlock, SweptBlock, RebuiltBlock, valueOf}
+use Rattle.eig.proofs.Small.{triangle-large}
 use Rattle.eig.proofs.Literals.{√2-is}
 
 unit-length : (n : ℕ) → length (unit n) ≡ n * n
@@ -49,11 +56,13 @@ swept-block n tol most x work x₁ z₁ x' z' rotations succeeded room is-x is-z
   where
     many : length z₁ ≡ n * n
     many = ap length is-z ∙ unit-length n
+
     whole : swept (state x' z' rotations) succeeded ≡ sweptBlock n tol most x
     whole =
         is-swept
         ∙ ap (λ (l : List Float). sweeps n tol most (state l (take (n + n * n - n) (drop n (putMid n (n + n * n - n) work z₁))) 0)) (is-x ∙ ap (λ (v : Float). diagonalTimes v n x) √2-is)
         ∙ ap (λ (l : List Float). sweeps n tol most (state (diagonalTimes √2 n x) l 0)) (lent-again n (n * n) work z₁ room many ∙ is-z)
+
     vectors : z' ≡ (sweptBlock n tol most x) .turning .vectors
     vectors = ap (λ (s : Swept). s .turning .vectors) whole
 
@@ -87,15 +96,19 @@ rebuilt-block n x work w x₁ x' by room is-w is-x₁ is-by is-x' =
     left =
         ap (λ (l : List Float). l ++ postOf 0 (n - 0) work) is-w
         ∙ ap (λ (l : List Float). tabulate n (valueOf n x) ++ l) (post-is 0 n work (omega arith))
+
     value : (p : ℕ) → p < n → at (w ++ postOf 0 (n - 0) work) p ≡ valueOf n x p
     value p h =
         ap (λ (l : List Float). at l p) left
         ∙ List·getD-append (tabulate n (valueOf n x)) (drop n work) nan p (omega (arith, tabulate-length n (valueOf n x)))
         ∙ tabulate-at n (valueOf n x) p h
+
     rest : drop n (w ++ postOf 0 (n - 0) work) ≡ drop n work
     rest = ap (λ (l : List Float). drop n l) left ∙ drop-at (tabulate n (valueOf n x)) (drop n work) n (tabulate-length n (valueOf n x))
+
     vector : (p q : ℕ) → inSquare n (drop n (w ++ postOf 0 (n - 0) work)) p q ≡ inSquare n (drop n work) p q
     vector p q = ap (λ (l : List Float). inSquare n l p q) rest
+
     same : (r c : ℕ) → r ≤ c → c < n → rebuiltEntry (at (w ++ postOf 0 (n - 0) work)) (inSquare n (drop n (w ++ postOf 0 (n - 0) work))) n r c ≡ rebuiltEntry (valueOf n x) (inSquare n (drop n work)) n r c
     same r c hr hc = rebuilt-same _ _ _ _ n r c value (λ p l. vector r p) (λ p l. vector c p)
 
@@ -142,6 +155,29 @@ refused {fits} {ruled} {block} {work} unfit =
       work-left = sym (ap (λ (t : Bool). cond t (ruled .work) work) unfit);
     }
 
+-- what the sizes say where they fit
+pub record Fitting (par : SolverParam) (n : ℕ) (x work : List Float) : Type 0 where
+  pub sized : IsPacked n x
+  pub room : n + n * n ≤ length work
+  pub few : par .«sweep_limit» ≤ mostSweeps
+
+both : (a b : Bool) → (a && b) ≡ true → (a ≡ true) × (b ≡ true)
+both true b e = (refl, e)
+both false b e = absurd (false≢true e)
+
+pub fitting : (par : SolverParam) (n : ℕ) (x work : List Float) → blockFits par (PSD n) x work ≡ true → Fitting par n x work
+fitting par n x work e =
+    let p = both (leb (triangle n) limit && eqb (length x) (triangle n) && leb (n + n * n) (length work)) (sweepsFit par) e in
+    let q = both (leb (triangle n) limit && eqb (length x) (triangle n)) (leb (n + n * n) (length work)) (p .0) in
+    let r = both (leb (triangle n) limit) (eqb (length x) (triangle n)) (q .0) in
+    let s = both (leb 1 (par .«sweep_limit»)) (leb (par .«sweep_limit») mostSweeps) (p .1) in
+    let few : triangle n ≤ limit = leb-true (triangle n) limit (r .0) in
+    record {
+      sized = record { order = by-less limit n (λ l. absurd (omega (arith, few, triangle-large n l))) (λ l. l); stored = eqb-true (length x) (triangle n) (r .1) };
+      room = leb-true (n + n * n) (length work) (q .1);
+      few = leb-true (par .«sweep_limit») mostSweeps (s .1);
+    }
+
 module _ (par : SolverParam) (n : ℕ) (x work : List Float) (fits : Bool) (fit : fits ≡ true) (rotations : ℕ) (succeeded : Bool) (x₁ work₁ : List Float) (first : SweptBlock n (sweptOf par n x) work rotations succeeded x₁ work₁) where
   turning : Turning
   turning = (sweptOf par n x) .turning
@@ -159,19 +195,23 @@ module _ (par : SolverParam) (n : ℕ) (x work : List Float) (fits : Bool) (fit 
       kept =
           ap (λ (l : List Float). drop n l) (first .cone-work ∙ append-assoc (take n work) (turning .vectors) (drop (n + n * n) work))
           ∙ drop-at (take n work) (turning .vectors ++ drop (n + n * n) work) n (length-take-le n work (omega arith))
+
       vector : (p q : ℕ) → p < n → q < n → inSquare n (drop n work₁) p q ≡ inSquare n (turning .vectors) p q
       vector p q hp hq =
           ap (λ (l : List Float). inSquare n l p q) kept
           ∙ inSquare-place n (turning .vectors ++ drop (n + n * n) work) p q
           ∙ List·getD-append (turning .vectors) (drop (n + n * n) work) nan (q * n + p) (omega (arith, first .stored, square-inside n p q hp hq))
           ∙ sym (inSquare-place n (turning .vectors) p q)
+
       value : (p : ℕ) → valueOf n x₁ p ≡ valueOf n (turning .matrix) p
       value p = ap (λ (l : List Float). valueOf n l p) (first .block)
+
       block-is : x' ≡ (doneOf n work turning) .block
       block-is =
           second .block
           ∙ ap (λ (l : List Float). diagonalTimes (reciprocal √2) n l)
-            (packed-same n _ _ (λ r c hr hc. rebuilt-same (valueOf n x₁) (valueOf n (turning .matrix)) (inSquare n (drop n work₁)) (inSquare n (turning .vectors)) n r c (λ p l. value p) (λ p l. vector r p (omega arith) l) (λ p l. vector c p hc l)))
+          (packed-same n _ _ (λ r c hr hc. rebuilt-same (valueOf n x₁) (valueOf n (turning .matrix)) (inSquare n (drop n work₁)) (inSquare n (turning .vectors)) n r c (λ p l. value p) (λ p l. vector r p (omega arith) l) (λ p l. vector c p hc l)))
+
       work-is : work' ≡ (doneOf n work turning) .work
       work-is =
           second .cone-work

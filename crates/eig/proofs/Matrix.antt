@@ -76,18 +76,18 @@ module _ (n k i j : ℕ) (c s : Float) (x x' : List Float) (r : Turned k i j c s
         same = simp length-set (r .same);
         first =
             λ m l u v.
-              by-same m k (λ e. rw e (at-i ∙ rw (r .first-later k (omega arith) (rw e at u) (rw e at v), r .second-later k (omega arith) (rw e at u) (rw e at v))))
-              (λ ne. first-kept m ne v ∙ r .first m (omega arith) u v);
+            by-same m k (λ e. rw e (at-i ∙ rw (r .first-later k (omega arith) (rw e at u) (rw e at v), r .second-later k (omega arith) (rw e at u) (rw e at v))))
+            (λ ne. first-kept m ne v ∙ r .first m (omega arith) u v);
         second =
             λ m l u v.
-              by-same m k (λ e. rw e (at-j ∙ rw (r .first-later k (omega arith) (rw e at u) (rw e at v), r .second-later k (omega arith) (rw e at u) (rw e at v))))
-              (λ ne. second-kept m ne u ∙ r .second m (omega arith) u v);
+            by-same m k (λ e. rw e (at-j ∙ rw (r .first-later k (omega arith) (rw e at u) (rw e at v), r .second-later k (omega arith) (rw e at u) (rw e at v))))
+            (λ ne. second-kept m ne u ∙ r .second m (omega arith) u v);
         first-later = λ m l u v. first-kept m (λ e. omega arith) v ∙ r .first-later m (omega arith) u v;
         second-later = λ m l u v. second-kept m (λ e. omega arith) u ∙ r .second-later m (omega arith) u v;
         others =
             λ p q t u v w.
-              kept p q (without p q k i t v) (without p q k j u w)
-              ∙ r .others p q t u v w;
+            kept p q (without p q k i t v) (without p q k j u w)
+            ∙ r .others p q t u v w;
       }
 
 pub turned-more : {n k i j : ℕ} {c s : Float} {x x' : List Float} {p q : ℕ} → Turned k i j c s x x' → IsPacked n x → IsPair n i j → k < n → p ≡ packedPlace k i → q ≡ packedPlace k j → Turned (k + 1) i j c s x (set (set x' p (turnedFirst c s (at x' p) (at x' q))) q (turnedSecond c s (at x' p) (at x' q)))
@@ -144,32 +144,32 @@ module _ (n i j : ℕ) (c s : Float) (x x' : List Float) (r : Turned n i j c s x
   rotated-at p q l hq =
       by-same p i
       (λ pi.
-        by-same q i (λ qi. rw (pi, qi, eq-eqb i i refl) at-ii)
-        (λ qi.
-          by-same q j (λ qj. rw (pi, qj, eq-eqb i i refl, ne-eqb j i (λ e. omega arith), ne-eqb i j (λ e. omega arith), eq-eqb j j refl) at-ij)
-          (λ qj.
-            rw (pi, eq-eqb i i refl, ne-eqb q i qi, ne-eqb i j (λ e. omega arith), ne-eqb q j qj)
-            (clear-of i q (λ e. omega (arith, packedPlace-apart i q i i e)) (λ e. omega (arith, packedPlace-apart i q j j e)) (λ e. omega (arith, packedPlace-apart i q i j e)) ∙ mirrored i q ∙ r .first q hq qi qj))))
+      by-same q i (λ qi. rw (pi, qi, eq-eqb i i refl) at-ii)
+      (λ qi.
+      by-same q j (λ qj. rw (pi, qj, eq-eqb i i refl, ne-eqb j i (λ e. omega arith), ne-eqb i j (λ e. omega arith), eq-eqb j j refl) at-ij)
+      (λ qj.
+      rw (pi, eq-eqb i i refl, ne-eqb q i qi, ne-eqb i j (λ e. omega arith), ne-eqb q j qj)
+      (clear-of i q (λ e. omega (arith, packedPlace-apart i q i i e)) (λ e. omega (arith, packedPlace-apart i q j j e)) (λ e. omega (arith, packedPlace-apart i q i j e)) ∙ mirrored i q ∙ r .first q hq qi qj))))
       (λ pi.
-        by-same q i
-        (λ qi.
-          rw (qi, ne-eqb p i pi, ne-eqb p j (λ e. omega arith), eq-eqb i i refl)
-          (clear-of p i (λ e. pi (omega (arith, packedPlace-apart p i i i e))) (λ e. omega (arith, packedPlace-apart p i j j e)) (λ e. omega (arith, packedPlace-apart p i i j e)) ∙ r .first p (omega arith) pi (λ e. omega arith)))
-        (λ qi.
-          by-same p j
-          (λ pj.
-            by-same q j (λ qj. rw (pj, qj, ne-eqb j i (λ e. omega arith), eq-eqb j j refl) at-jj)
-            (λ qj.
-              rw (pj, ne-eqb j i (λ e. omega arith), eq-eqb j j refl, ne-eqb q j qj, ne-eqb q i qi)
-              (clear-of j q (without j q i i (λ e. omega arith) qi) (λ e. qj (omega (arith, packedPlace-apart j q j j e))) (λ e. qi (omega (arith, packedPlace-apart j q i j e))) ∙ mirrored j q ∙ r .second q hq qi qj)))
-          (λ pj.
-            by-same q j
-            (λ qj.
-              rw (qj, ne-eqb p i pi, ne-eqb p j pj, ne-eqb j i (λ e. omega arith), eq-eqb j j refl)
-              (clear-of p j (without p j i i pi (λ e. omega arith)) (λ e. pj (omega (arith, packedPlace-apart p j j j e))) (λ e. pi (omega (arith, packedPlace-apart p j i j e))) ∙ r .second p (omega arith) pi pj))
-            (λ qj.
-              rw (ne-eqb p i pi, ne-eqb p j pj, ne-eqb q i qi, ne-eqb q j qj)
-              (clear-of p q (without p q i i pi qi) (without p q j j pj qj) (without p q i j pj qj) ∙ r .others p q pi pj qi qj)))))
+      by-same q i
+      (λ qi.
+      rw (qi, ne-eqb p i pi, ne-eqb p j (λ e. omega arith), eq-eqb i i refl)
+      (clear-of p i (λ e. pi (omega (arith, packedPlace-apart p i i i e))) (λ e. omega (arith, packedPlace-apart p i j j e)) (λ e. omega (arith, packedPlace-apart p i i j e)) ∙ r .first p (omega arith) pi (λ e. omega arith)))
+      (λ qi.
+      by-same p j
+      (λ pj.
+      by-same q j (λ qj. rw (pj, qj, ne-eqb j i (λ e. omega arith), eq-eqb j j refl) at-jj)
+      (λ qj.
+      rw (pj, ne-eqb j i (λ e. omega arith), eq-eqb j j refl, ne-eqb q j qj, ne-eqb q i qi)
+      (clear-of j q (without j q i i (λ e. omega arith) qi) (λ e. qj (omega (arith, packedPlace-apart j q j j e))) (λ e. qi (omega (arith, packedPlace-apart j q i j e))) ∙ mirrored j q ∙ r .second q hq qi qj)))
+      (λ pj.
+      by-same q j
+      (λ qj.
+      rw (qj, ne-eqb p i pi, ne-eqb p j pj, ne-eqb j i (λ e. omega arith), eq-eqb j j refl)
+      (clear-of p j (without p j i i pi (λ e. omega arith)) (λ e. pj (omega (arith, packedPlace-apart p j j j e))) (λ e. pi (omega (arith, packedPlace-apart p j i j e))) ∙ r .second p (omega arith) pi pj))
+      (λ qj.
+      rw (ne-eqb p i pi, ne-eqb p j pj, ne-eqb q i qi, ne-eqb q j qj)
+      (clear-of p q (without p q i i pi qi) (without p q j j pj qj) (without p q i j pj qj) ∙ r .others p q pi pj qi qj)))))
 
   stored : length x₃ ≡ triangle n
   unfolding x₁ x₂ x₃

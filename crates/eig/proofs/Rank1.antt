@@ -51,18 +51,18 @@ column-elsewhere : (e : Float) (z : List Float) (c k : ℕ) (x : List Float) (p 
 column-elsewhere e z c k x p q apart =
     by-same q c
     (λ s.
-      by-less p k (λ l. rw (lt-ltb p k l, lt-ltb p (k + 1) (omega arith)))
-      (λ l. rw (le-ltb p k l, le-ltb p (k + 1) (by-less k p (λ m. omega arith) (λ m. absurd (apart (omega arith) s))))))
+    by-less p k (λ l. rw (lt-ltb p k l, lt-ltb p (k + 1) (omega arith)))
+    (λ l. rw (le-ltb p k l, le-ltb p (k + 1) (by-less k p (λ m. omega arith) (λ m. absurd (apart (omega arith) s))))))
     (λ n. rw (ne-eqb q c n))
 
 pub column-more : {e : Float} {z : List Float} {c k p : ℕ} {x x' : List Float} → ColumnTo e z c k x x' → k ≤ c → c < length z → p ≡ packedPlace k c → ColumnTo e z c (k + 1) x (set x' p (e *ᶠ at z k *ᶠ at z c +ᶠ at x' p))
 column-more {e} {z} {c} {k} {p} {x} {x'} r h hc is-p =
     let place-is : p ≡ triangle c + k = is-p ∙ packedPlace-le k c h in
     let held : at x' (triangle c + k) ≡ inPacked (length z) x k c =
-        ap (λ (l : List Float). at l (triangle c + k)) (r .is) ∙ packed-at (length z) (columnTo e z c k x) k c h hc ∙ rw (eq-eqb c c refl, le-ltb k k (omega arith)) in
+    ap (λ (l : List Float). at l (triangle c + k)) (r .is) ∙ packed-at (length z) (columnTo e z c k x) k c h hc ∙ rw (eq-eqb c c refl, le-ltb k k (omega arith)) in
     let new : columnTo e z c (k + 1) x k c ≡ e *ᶠ at z k *ᶠ at z c +ᶠ at x' (triangle c + k) = rw (held, eq-eqb c c refl, lt-ltb k (k + 1) (omega arith)) in
     let stored : set x' (triangle c + k) (e *ᶠ at z k *ᶠ at z c +ᶠ at x' (triangle c + k)) ≡ packed (length z) (columnTo e z c (k + 1) x) =
-        packed-set (columnTo e z c (k + 1) x) k c (e *ᶠ at z k *ᶠ at z c +ᶠ at x' (triangle c + k)) (r .is) h hc new (λ p q hp hq apart. column-elsewhere e z c k x p q apart) in
+    packed-set (columnTo e z c (k + 1) x) k c (e *ᶠ at z k *ᶠ at z c +ᶠ at x' (triangle c + k)) (r .is) h hc new (λ p q hp hq apart. column-elsewhere e z c k x p q apart) in
     record { is = rw place-is stored; same = length-set x' p (e *ᶠ at z k *ᶠ at z c +ᶠ at x' p) ∙ r .same; within = omega arith }
 
 pub column-all : {e : Float} {z : List Float} {c k : ℕ} {x x' : List Float} → ColumnTo e z c k x x' → c + 1 ≤ k → x' ≡ plusColumn e z c x
@@ -70,7 +70,7 @@ unfolding plusColumn
 column-all {e} {z} {c} {k} {x} {x'} r h =
     r .is
     ∙ packed-same (length z) (columnTo e z c k x) _
-      (λ p q hp hq. by-same q c (λ s. rw (eq-eqb q c s, lt-ltb p k (omega arith))) (λ n. rw (ne-eqb q c n)))
+    (λ p q hp hq. by-same q c (λ s. rw (eq-eqb q c s, lt-ltb p k (omega arith))) (λ n. rw (ne-eqb q c n)))
 
 -- ---- all columns: the first k are done
 
@@ -99,14 +99,15 @@ columns-more {e} {z} {k} {x} {x'} r h x'' is sized =
   where
     old : (p q : ℕ) → p ≤ q → q < length z → inPacked (length z) x' p q ≡ columnsTo e z k x p q
     old p q hp hq = entry-of (length z) (columnsTo e z k x) x' (r .is) p q hp hq
+
     same : (p q : ℕ) → p ≤ q → q < length z → cond (eqb q k) (added e z x' p q) (inPacked (length z) x' p q) ≡ columnsTo e z (k + 1) x p q
     same p q hp hq =
         by-same q k
         (λ s. rw (eq-eqb q k s, lt-ltb q (k + 1) (omega arith), old p q hp hq, le-ltb q k (omega arith)))
         (λ n.
-          rw (ne-eqb q k n, old p q hp hq)
-          (by-less q k (λ l. rw (lt-ltb q k l, lt-ltb q (k + 1) (omega arith)))
-          (λ l. rw (le-ltb q k l, le-ltb q (k + 1) (by-less k q (λ m. omega arith) (λ m. absurd (n (omega arith))))))))
+        rw (ne-eqb q k n, old p q hp hq)
+        (by-less q k (λ l. rw (lt-ltb q k l, lt-ltb q (k + 1) (omega arith)))
+        (λ l. rw (le-ltb q k l, le-ltb q (k + 1) (by-less k q (λ m. omega arith) (λ m. absurd (n (omega arith))))))))
 
 pub columns-all : {e : Float} {z : List Float} {k : ℕ} {x x' : List Float} → ColumnsTo e z k x x' → length z ≤ k → x' ≡ plusRank1 e z x
 unfolding plusRank1
@@ -144,9 +145,9 @@ rebuilt-none n work old x sized e =
       is =
           packed-is n (rebuiltEntry (at work) (inSquare n (drop n work)) 0) x same
           (λ r c hr hc.
-            ap (λ (l : List Float). at l (triangle c + r)) e
-            ∙ each-at (λ k v. +0) old (triangle c + r) (omega (arith, sized .stored, triangle-inside c n hc))
-            ∙ sym (rebuilt-zero (at work) (inSquare n (drop n work)) r c));
+          ap (λ (l : List Float). at l (triangle c + r)) e
+          ∙ each-at (λ k v. +0) old (triangle c + r) (omega (arith, sized .stored, triangle-inside c n hc))
+          ∙ sym (rebuilt-zero (at work) (inSquare n (drop n work)) r c));
       sized = record { order = sized .order; stored = same };
       within = omega arith;
     }
@@ -194,11 +195,11 @@ module _ (n : ℕ) (work : List Float) (k : ℕ) (room : n + n * n ≤ length wo
             e
             ∙ ap (λ (l : ℕ). packed l (λ p q. at work k *ᶠ at (lent n work k) p *ᶠ at (lent n work k) q +ᶠ inPacked l x p q)) lent-length
             ∙ packed-same n _ _
-              (λ p q hp hq.
-                ap (λ (v : Float). at work k *ᶠ v *ᶠ at (lent n work k) q +ᶠ inPacked n x p q) (lent-at p (omega arith))
-                ∙ ap (λ (v : Float). at work k *ᶠ inSquare n (drop n work) p k *ᶠ v +ᶠ inPacked n x p q) (lent-at q hq)
-                ∙ ap (λ (v : Float). at work k *ᶠ inSquare n (drop n work) p k *ᶠ inSquare n (drop n work) q k +ᶠ v) (entry-of n (rebuiltEntry (at work) (inSquare n (drop n work)) k) x (r .is) p q hp hq)
-                ∙ sym (rebuilt-by (at work) (inSquare n (drop n work)) k p q true on));
+            (λ p q hp hq.
+            ap (λ (v : Float). at work k *ᶠ v *ᶠ at (lent n work k) q +ᶠ inPacked n x p q) (lent-at p (omega arith))
+            ∙ ap (λ (v : Float). at work k *ᶠ inSquare n (drop n work) p k *ᶠ v +ᶠ inPacked n x p q) (lent-at q hq)
+            ∙ ap (λ (v : Float). at work k *ᶠ inSquare n (drop n work) p k *ᶠ inSquare n (drop n work) q k +ᶠ v) (entry-of n (rebuiltEntry (at work) (inSquare n (drop n work)) k) x (r .is) p q hp hq)
+            ∙ sym (rebuilt-by (at work) (inSquare n (drop n work)) k p q true on));
         sized = record { order = r .sized .order; stored = same ∙ r .sized .stored };
         within = omega arith;
       }

@@ -74,22 +74,22 @@ module _ (n k i j : ℕ) (c s : Float) (z z' : List Float) (r : VectorsTo n k i 
   row-turned q hq =
       by-same q i
       (λ e.
-        rw (e, eq-eqb i i refl) (at-i ∙ rw (old k i h (omega arith) (omega arith), old k j h (pair .inside) (omega arith))))
+      rw (e, eq-eqb i i refl) (at-i ∙ rw (old k i h (omega arith) (omega arith), old k j h (pair .inside) (omega arith))))
       (λ ne.
-        by-same q j
-        (λ e.
-          let apart : j ≡ i → ⊥ = λ u. omega arith in
-          rw (e, ne-eqb j i apart, eq-eqb j j refl) (at-j ∙ rw (old k i h (omega arith) (omega arith), old k j h (pair .inside) (omega arith))))
-        (λ ne'. rw (ne-eqb q i ne, ne-eqb q j ne') (elsewhere k q h (λ u v. ne v) (λ u v. ne' v) ∙ old k q h hq (omega arith))))
+      by-same q j
+      (λ e.
+      let apart : j ≡ i → ⊥ = λ u. omega arith in
+      rw (e, ne-eqb j i apart, eq-eqb j j refl) (at-j ∙ rw (old k i h (omega arith) (omega arith), old k j h (pair .inside) (omega arith))))
+      (λ ne'. rw (ne-eqb q i ne, ne-eqb q j ne') (elsewhere k q h (λ u v. ne v) (λ u v. ne' v) ∙ old k q h hq (omega arith))))
 
   turned : (p q : ℕ) → p < n → q < n → at twice (q * n + p) ≡ vectorsTo n (k + 1) i j c s z p q
   turned p q hp hq =
       by-same p k (λ e. rw (e, lt-ltb k (k + 1) (omega arith)) (row-turned q hq))
       (λ ne.
-        elsewhere p q hp (λ u v. ne u) (λ u v. ne u)
-        ∙ ap (λ (l : List Float). at l (q * n + p)) (r .is)
-        ∙ square-at n (vectorsTo n k i j c s z) p q hp hq
-        ∙ by-less p k (λ l. rw (lt-ltb p k l, lt-ltb p (k + 1) (omega arith))) (λ l. rw (le-ltb p k l, le-ltb p (k + 1) (by-less k p (λ m. omega arith) (λ m. absurd (ne (omega arith)))))))
+      elsewhere p q hp (λ u v. ne u) (λ u v. ne u)
+      ∙ ap (λ (l : List Float). at l (q * n + p)) (r .is)
+      ∙ square-at n (vectorsTo n k i j c s z) p q hp hq
+      ∙ by-less p k (λ l. rw (lt-ltb p k l, lt-ltb p (k + 1) (omega arith))) (λ l. rw (le-ltb p k l, le-ltb p (k + 1) (by-less k p (λ m. omega arith) (λ m. absurd (ne (omega arith)))))))
 
 pub vectors-more : {n k i j : ℕ} {c s : Float} {z z' : List Float} → VectorsTo n k i j c s z z' → IsPair n i j → k < n → VectorsTo n (k + 1) i j c s z (set (set z' (i * n + k) (turnedFirst c s (at z' (i * n + k)) (at z' (j * n + k)))) (j * n + k) (turnedSecond c s (at z' (i * n + k)) (at z' (j * n + k))))
 unfolding first second once twice

@@ -28,7 +28,6 @@ pub record Turned (k i j : ℕ) (c s : Float) (x x' : List Float) : Type 0 where
   pub second-later : (m : ℕ) → k ≤ m → (m ≡ i → ⊥) → (m ≡ j → ⊥) → cell x' m j ≡ cell x m j
   pub others : (p q : ℕ) → (p ≡ i → ⊥) → (p ≡ j → ⊥) → (q ≡ i → ⊥) → (q ≡ j → ⊥) → cell x' p q ≡ cell x p q
 
-
 -- ---- the matrix built anew
 
 -- e times the product of the column's entries r and c, added to what stands there

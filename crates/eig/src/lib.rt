@@ -1,6 +1,8 @@
 // Jacobi's method and map_eig of floatgeneric.rs: the semidefinite projection.
-use rules::{Projection, SolverParam, LIMIT, SWEEPS};
-
+use rules::LIMIT;
+use rules::Projection;
+use rules::SWEEPS;
+use rules::SolverParam;
 ghost use Prim.Native.Nat.{_+_, _-_, _*_, _≤_, _<_};
 ghost use mathlib.Core.Path.{_≡_};
 ghost use lib.ListN.{length, drop};
@@ -19,7 +21,11 @@ fn place(r: usize, c: usize) -> usize
     requires { ⌜ c < limit ⌝ }
     ensures { λ p. ⌜ p ≡ packedPlace r c ⌝ }
 {
-    if r < c { c * (c + 1) / 2 + r } else { r * (r + 1) / 2 + c }
+    if r < c {
+        c * (c + 1) / 2 + r
+    } else {
+        r * (r + 1) / 2 + c
+    }
 }
 
 // The diagonal times a number.
@@ -109,7 +115,11 @@ fn tangent(a: f64, b: f64, d: f64) -> f64
 {
     let zeta = (b - a) / (2.0 * d);
     let root = float::root::root(1.0 + zeta * zeta);
-    if zeta > 0.0 { 1.0 / (zeta + root) } else { -1.0 / (-zeta + root) }
+    if zeta > 0.0 {
+        1.0 / (zeta + root)
+    } else {
+        -1.0 / (-zeta + root)
+    }
 }
 
 fn cosine(t: f64) -> f64
@@ -221,10 +231,16 @@ fn jacobi_eig(n: usize, tol: f64, sweep_limit: u64, x: &mut [f64], z: &mut [f64]
         let before = made;
         made = sweep(n, tol, before, x, z);
         if made == before {
-            return Swept { rotations: made, succeeded: true };
+            return Swept {
+                rotations: made,
+                succeeded: true,
+            };
         }
     }
-    Swept { rotations: made, succeeded: false }
+    Swept {
+        rotations: made,
+        succeeded: false,
+    }
 }
 
 // The eigenvalues are what the diagonal holds.
@@ -330,7 +346,13 @@ pub fn map_eig(par: SolverParam, order: usize, mat: &mut [f64], work: &mut [f64]
     if !fits(par, order, mat, work) {
         return Projection::No;
     }
-    let swept = sweep_block(order, par.eps_zero * par.eps_zero, par.sweep_limit, mat, work);
+    let swept = sweep_block(
+        order,
+        par.eps_zero * par.eps_zero,
+        par.sweep_limit,
+        mat,
+        work,
+    );
     if !swept.succeeded {
         return Projection::Failed(swept.rotations);
     }

@@ -50,7 +50,7 @@ loop-less c = search needs
 
 loop-again : tie.Need-loop-again Inv-loop μ-loop
 unfolding entry place packedPlace
-loop-again c = 
+loop-again c =
     let m = c .before .before .before in
     let s = m .before .before .before in
     let read : at (s .args .x .now) (c .before .place .result) ≡ inPacked (s .args .n) (s .args .x .now) (m .loop .k) (m .loop .k) = rw (c .before .place .ensures) in

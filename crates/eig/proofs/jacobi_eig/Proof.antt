@@ -18,7 +18,7 @@ loop-holds : tie.Need-loop-holds Inv-loop μ-loop
 loop-holds c = let s = c .before .before in (sweeps-first (s .args .n) (s .args .tol) _ (s .args .x .now) (s .args .z .now) (search needs) (search needs), search needs)
 
 sweep-requires : tie.Need-sweep-requires Inv-loop μ-loop
-sweep-requires c κs = 
+sweep-requires c κs =
     let m = c .before .before in
     let r = m .before .loop .inv .0 in
     (r .packed, (r .square, sweeps-room r (m .loop-test .taken) (m .before .loop .inv .1)))

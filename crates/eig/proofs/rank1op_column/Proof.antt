@@ -61,7 +61,7 @@ loop-less : tie.Need-loop-less Inv-loop μ-loop
 loop-less c = search needs
 
 loop-again : tie.Need-loop-again Inv-loop μ-loop
-loop-again c = 
+loop-again c =
     let m = c .before .before .before .before .before in
     (column-more (m .loop .inv .0) (search needs) (search needs) (c .before .before .before .place .ensures), search needs)
 

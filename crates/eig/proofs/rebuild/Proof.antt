@@ -50,7 +50,7 @@ part-rank1op-end c = let m = c .before .before in let s = m .before .before .bef
 
 rank1op-requires : tie.Need-rank1op-requires Inv-loop μ-loop
 unfolding lent
-rank1op-requires c κs = 
+rank1op-requires c κs =
     let m = c .before .before .before .before in
     let s = m .before .before .before .before .before .before .before .before in
     let whole = lent-length (s .args .n) (s .args .work .now) (m .before .loop .k) (m .before .loop .inv .1) (m .loop-test .taken) in
@@ -64,13 +64,13 @@ loop-less c = search needs
 
 loop-again : tie.Need-loop-again Inv-loop μ-loop
 unfolding lent
-loop-again c = 
+loop-again c =
     let m = c .before .before in
     let s = m .before .before .before .before .before .before .before .before in
     let r = m .before .loop .inv in
     ⊎-elim
     (λ w.
-      (rebuilt-on (s .args .n) (s .args .work .now) (m .before .loop .k) (r .1) (m .loop-test .taken) (r .0) (w .0 .taken) (c .if1 .x) (w .6 ∙ w .3 .ensures) (ap length (w .6) ∙ w .3 .kept .1 .1 .0), r .1))
+    (rebuilt-on (s .args .n) (s .args .work .now) (m .before .loop .k) (r .1) (m .loop-test .taken) (r .0) (w .0 .taken) (c .if1 .x) (w .6 ∙ w .3 .ensures) (ap length (w .6) ∙ w .3 .kept .1 .1 .0), r .1))
     (λ w. (rw (w .1) (rebuilt-off (r .0) (m .loop-test .taken) (w .0 .left)), r .1))
     (c .if1 .came)
 

@@ -33,7 +33,7 @@ same-length-2 : tie.Need-same-length-2
 same-length-2 c = search needs
 
 returns : tie.Need-returns
-returns c = 
+returns c =
     let a = c .before .before .before .before .before .before .before .before .before .before .before .before .before .before .before .before .before .args in
     rebuilt-block (a .n) (a .mat .now) (a .work .now) _ _ _ _ (search needs) (c .before .before .before .before .before .before .before .before .before .before .before .before .eigenvalues .ensures) (c .before .before .before .before .before .before .before .rebuild .ensures) (c .before .before .before .before .reciprocal .ensures) (c .before .before .scale-diagonal .ensures)
 

@@ -18,7 +18,7 @@ loop-holds : tie.Need-loop-holds Inv-loop μ-loop
 loop-holds c = let s = c .before .before in (sweep-first (s .args .n) (s .args .tol) (s .args .x .now) (s .args .z .now) (s .args .rotations) (search needs) (search needs), search needs)
 
 sweep-row-requires : tie.Need-sweep-row-requires Inv-loop μ-loop
-sweep-row-requires c κs = 
+sweep-row-requires c κs =
     let m = c .before .before in
     let r = m .before .loop .inv .0 in
     (r .packed, (r .square, (m .loop-test .taken, sweep-room r (m .loop-test .taken) (m .before .loop .inv .1))))
@@ -30,7 +30,7 @@ loop-less : tie.Need-loop-less Inv-loop μ-loop
 loop-less c = search needs
 
 loop-again : tie.Need-loop-again Inv-loop μ-loop
-loop-again c = 
+loop-again c =
     let m = c .before .before .before .before .before .before .before in
     let r = m .before .loop .inv .0 in
     (sweep-next r _ _ _ (c .before .before .before .before .sweep-row .ensures) (search needs) (search needs) (m .loop-test .taken), search needs)

@@ -56,7 +56,7 @@ same-length-2 : tie.Need-same-length-2
 same-length-2 c = search needs
 
 returns : tie.Need-returns
-returns c = 
+returns c =
     let a = c .before .before .before .before .before .before .before .before .before .before .before .before .before .before .before .before .before .args in
     swept-block (a .n) (a .tol) (a .«sweep-limit») (a .mat .now) (a .work .now) _ _ _ _ _ _ (c .before .before .before .before .before .before .before .before .before .before .before .before .before .before .before .before .before .pre .1 .0) (c .before .before .before .before .before .before .before .before .before .before .before .before .before .scale-diagonal .ensures) (c .before .before .before .before .before .before .before .before .before .start .ensures) (c .before .before .before .before .jacobi-eig .ensures) (c .before .before .before .before .jacobi-eig .kept .1 .1 .1 .1 .0)
 

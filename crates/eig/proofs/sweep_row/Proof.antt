@@ -22,7 +22,7 @@ loop-holds : tie.Need-loop-holds Inv-loop μ-loop
 loop-holds c = let s = c .before .before in (row-first (s .args .n) (s .args .tol) (s .args .i) (s .args .x .now) (s .args .z .now) (s .args .rotations) (search needs) (search needs) (search needs), search needs)
 
 pair-requires : tie.Need-pair-requires Inv-loop μ-loop
-pair-requires c κs = 
+pair-requires c κs =
     let m = c .before .before in
     let r = m .before .loop .inv .0 in
     (r .packed, (r .square, (record { rising = r .from; inside = m .loop-test .taken }, omega (arith, row-made r, m .before .loop .inv .1, r .from, m .loop-test .taken))))
@@ -34,7 +34,7 @@ loop-less : tie.Need-loop-less Inv-loop μ-loop
 loop-less c = search needs
 
 loop-again : tie.Need-loop-again Inv-loop μ-loop
-loop-again c = 
+loop-again c =
     let m = c .before .before .before .before .before .before .before in
     let r = m .before .loop .inv .0 in
     (row-next r _ _ _ (c .before .before .before .before .pair .ensures) (search needs) (search needs) (m .loop-test .taken), search needs)

@@ -22,9 +22,10 @@ inside c =
     let start = c .before .before .before .before .before in
     let n = start .args .n in
     let k = c .before .before .before .loop .k in
-    let kept = c .before .before .before .loop .inv .0 .same in
-    (omega (arith, kept, c .before .place .ensures, cells-inside n k (start .args .i) (start .args .x .now) (start .pre .0) (omega arith) (omega arith)),
-     omega (arith, kept, c .place2 .ensures, cells-inside n k (start .args .j) (start .args .x .now) (start .pre .0) (omega arith) (omega arith)))
+    let kept = c .before .before .before .loop .inv .0 .same in (
+      omega (arith, kept, c .before .place .ensures, cells-inside n k (start .args .i) (start .args .x .now) (start .pre .0) (omega arith) (omega arith)),
+      omega (arith, kept, c .place2 .ensures, cells-inside n k (start .args .j) (start .args .x .now) (start .pre .0) (omega arith) (omega arith)),
+    )
 
 loop-holds : tie.Need-loop-holds Inv-loop μ-loop
 loop-holds c = (turned-none _ _ _ _ _, search needs)
@@ -66,7 +67,7 @@ loop-less : tie.Need-loop-less Inv-loop μ-loop
 loop-less c = search needs
 
 loop-again : tie.Need-loop-again Inv-loop μ-loop
-loop-again c = 
+loop-again c =
     let m = c .before .before .before .before in
     (turned-more (m .before .loop .inv .0) (m .before .before .before .pre .0) (m .before .before .before .pre .1) (m .loop-test .taken) (c .before .before .before .place .ensures) (c .before .before .place2 .ensures), search needs)
 

@@ -7,9 +7,6 @@ use Rattle.eig.proofs.Halves.{Fitting, fitting, refused, failed, done}
 use Rattle.eig.proofs.map_eig.Statement.{statement}
 use Rattle.eig.proofs.map_eig.Tie as tie
 
-known : (c : tie.Else1) → Fitting (c .before .before .before .before .before .before .args .par) (c .before .before .before .before .before .before .args .order) (c .before .before .before .before .before .before .args .mat .now) (c .before .before .before .before .before .before .args .work .now)
-known c = fitting _ _ _ _ (sym (c .before .fits2 .ensures) ∙ not-false _ (c .if1 .left))
-
 -- what the test of the sizes says where it is passed
 known : (c : tie.Else1) → Fitting (c .before .before .before .before .before .before .args .par) (c .before .before .before .before .before .before .args .order) (c .before .before .before .before .before .before .args .mat .now) (c .before .before .before .before .before .before .args .work .now)
 known c = fitting _ _ _ _ (sym (c .before .fits2 .ensures) ∙ not-false _ (c .if1 .left))

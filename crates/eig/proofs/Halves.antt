@@ -8,7 +8,7 @@ use borrow.Author.Tests.{leb-true, eqb-true}
 use borrow.Rule.Slice.PartMut.{putMid, postOf, post-is, take-put, drop-put}
 use lib.Dec.{leb, eqb}
 use lib.Ieee.{Float, binary64, ofBits, nan, lt}
-use lib.ListN.{length, take, drop, length-append, List·getD-append}
+use lib.ListN.{length, take, drop, List·getD-append}
 use lib.Seq.{take-at, drop-at, length-take-le}
 use Rattle.rules.specs.Limits.{limit, mostSweeps}
 use Rattle.rules.specs.Helpers.{reciprocal}

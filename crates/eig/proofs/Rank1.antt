@@ -1,5 +1,5 @@
 -- The loops that build the matrix anew: before the first turn, at a turn, after the last.
-use Prim.Native.Nat.{ℕ, suc, _+_, _-_, _*_, _<_, _≤_}
+use Prim.Native.Nat.{ℕ, _+_, _-_, _*_, _<_, _≤_}
 use native.Mathlib.Omega.{arith}
 use native.Mathlib.Nat.{mul-le-mul, add-mul}
 use native.Mathlib.Numerals.{add-one}
@@ -17,7 +17,7 @@ use Rattle.rules.specs.Matrices.{triangle}
 use Rattle.rules.specs.Jacobi.{packed, inPacked, inSquare, packedPlace}
 use Rattle.rules.specs.Projections.{rebuiltEntry}
 use Rattle.rules.proofs.Arithmetic.{Reached, reached-all, each-length, each-at}
-use Rattle.rules.proofs.Columns.{by-less, by-same, tabulate-is, packed-self, packed-same, packed-is, packed-at, packed-length, packed-set, packedPlace-le, inPacked-at, inPacked-place, inSquare-place, triangle-inside}
+use Rattle.rules.proofs.Columns.{by-less, by-same, tabulate-is, packed-self, packed-same, packed-is, packed-at, packed-set, packedPlace-le, inPacked-at, inSquare-place, triangle-inside}
 use Rattle.eig.specs.Sizes.{IsPacked}
 use Rattle.eig.specs.Turns.{added, plusColumn, plusRank1}
 use Rattle.eig.proofs.Small.{product-small}

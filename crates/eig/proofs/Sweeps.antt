@@ -2,7 +2,7 @@
 use Prim.Native.Nat.{ℕ, suc, _+_, _-_, _*_, _<_, _≤_}
 use native.Mathlib.Omega.{arith}
 use native.Mathlib.Nat.{mul-le-mul, mul-le-mul-left, add-mul}
-use mathlib.Core.Path.{_≡_, refl, sym, _∙_, ap}
+use mathlib.Core.Path.{_≡_, sym, _∙_, ap}
 use mathlib.Core.Bool.{Bool, true, false, cond}
 use mathlib.Core.List.{List}
 use borrow.Author.Tests.{eq-eqb, ne-eqb}
@@ -12,7 +12,7 @@ use Rattle.rules.specs.Arithmetic.{_*ᶠ_}
 use Rattle.rules.specs.Limits.{limit, mostSweeps}
 use Rattle.rules.specs.Jacobi.{Turning, packed, square, inPacked, inSquare, tangent, cosine, rotatedEntry, rotatedVector, rotated, isRotated, pairDone, rowDone, rowsDone, sweep, sweeps}
 use Rattle.rules.proofs.Jacobi.{row-none, row-more, row-bounded, rows-none, rows-more, sweep-bounded, pairs}
-use Rattle.eig.specs.Sizes.{IsPacked, IsSquare, IsPair, mostRotations}
+use Rattle.eig.specs.Sizes.{IsPacked, IsSquare, mostRotations}
 use Rattle.eig.specs.Turns.{state, swept}
 use Rattle.eig.proofs.Small.{product-small}
 

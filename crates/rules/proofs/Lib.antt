@@ -4,5 +4,6 @@ pub mod RootPatterns
 pub mod Arithmetic
 pub mod Columns
 pub mod Jacobi
+pub mod Projections
 pub mod Outcome
 pub mod WorkedByHand

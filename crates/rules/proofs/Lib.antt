@@ -14,6 +14,7 @@ pub mod Lengths
 pub mod Accepted
 pub mod OldContents
 pub mod Demands
+pub mod Projections
 pub mod Outcome
 pub mod Vectors
 pub mod Matrices

@@ -1,0 +1,2 @@
+// The cone list and the projections onto its cones.
+pub mod words;

@@ -1,6 +1,6 @@
 -- Laws of the cone list: what a word says, and what the words from the i-th on come to.
 use Prim.Native.Nat.{ℕ, zero, suc, _+_, _-_, _*_, _/_, _≤_, _<_}
-use native.Mathlib.Nat.{mul-add, mul-one}
+use native.Mathlib.Nat.{mul-add, mul-one, mul-le-mul}
 use native.Mathlib.Numerals.{add-one}
 use native.Mathlib.Omega.{arith}
 use mathlib.Core.Path.{_≡_, refl, _∙_, ap}
@@ -22,6 +22,13 @@ use Rattle.rules.specs.Blocks.{kindOf, sizeOf, orderUpTo, orderOf, readK
 -- a triangle has at least as many places as a square has beside its diagonal, halved
 pub twice-triangle : (n : ℕ) → n * (n + 1) ≡ n * n + n
 twice-triangle n = mul-add n n 1 ∙ ap (λ (k : ℕ). n * n + k) (mul-one n)
+
+pub order-in-triangle : (n : ℕ) → n ≤ n * (n + 1) / 2
+order-in-triangle zero = omega arith
+order-in-triangle (suc n) =
+    let one : 1 ≤ suc n = omega arith in
+    let same : suc n ≤ suc n = omega arith in
+    omega (arith, mul-le-mul one same, twice-triangle (suc n))
 
 pub order-within : (n size : ℕ) → orderUpTo n size ≤ n
 unfolding orderUpTo

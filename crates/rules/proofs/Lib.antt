@@ -4,5 +4,6 @@ pub mod RootPatterns
 pub mod Arithmetic
 pub mod Outcome
 pub mod Blocks
+pub mod Projections
 pub mod ConeProduct
 pub mod WorkedByHand

@@ -3,6 +3,7 @@ pub mod Root
 pub mod RootPatterns
 pub mod Arithmetic
 pub mod Outcome
+pub mod Vectors
 pub mod Matrices
 pub mod Blocks
 pub mod Projections

@@ -11,7 +11,7 @@ use Rattle.rules.specs.declared.Cone.the-variants.{Zero, RPos, SOC, RotS
 use Rattle.rules.specs.declared.Product.{Product}
 use Rattle.rules.specs.declared.Product.the-variants.{Done, Failed, No}
 use Rattle.rules.specs.declared.SolverParam.{SolverParam}
-use Rattle.rules.specs.Limits.{limit}
+use Rattle.rules.specs.Limits.{limit, mostPlaces}
 use Rattle.rules.specs.Helpers.{smaller}
 use Rattle.rules.specs.Arithmetic.{at, each}
 use Rattle.rules.specs.Blocks.{places, blocksOf, isBadCone}
@@ -81,11 +81,17 @@ blocksWithin [] = true
 blocksWithin (b ∷ blocks) = leb (places b) limit && blocksWithin blocks
 
 -- a list that is no BadCone for that many places, with no block above the limit
+abbrev pub sumsFit : List ℕ → ℕ → Bool
+sumsFit words len = not (isBadCone words len) && blocksWithin (blocksOf words)
+
 abbrev pub listFits : List ℕ → List Float → Bool
-listFits words x = not (isBadCone words (length x)) && blocksWithin (blocksOf words)
+listFits words x = sumsFit words (length x)
+
+abbrev pub lengthsFit : SolverParam → List ℕ → ℕ → ℕ → Bool
+lengthsFit par words len work = sumsFit words len && leb (coneWork (blocksOf words)) work && leb len mostPlaces && sweepsFit par
 
 abbrev pub productFits : SolverParam → List ℕ → List Float → List Float → Bool
-productFits par words x work = listFits words x && leb (coneWork (blocksOf words)) (length work) && sweepsFit par
+productFits par words x work = lengthsFit par words (length x) (length work)
 
 abbrev pub productAnswer : ℕ → Failure → Product
 productAnswer rotations none = Done rotations

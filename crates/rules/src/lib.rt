@@ -34,6 +34,9 @@ pub enum Word {
 // The most sweeps that Jacobi's method may be allowed.
 pub const SWEEPS: u64 = 64;
 
+// The most places of a list of blocks: their rotations, at most SWEEPS a place, then fit 64 bits.
+pub const PLACES: usize = 288230376151711743;
+
 // The parameters of a run.
 pub struct SolverParam {
     pub max_iter: u64,

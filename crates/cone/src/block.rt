@@ -144,6 +144,6 @@ pub fn proj(par: SolverParam, dual: bool, cone: Cone, x: &mut [f64], work: &mut 
             proj_rotsoc(x);
             Projection::Done(0)
         }
-        Cone::PSD(order) => crate::eig::map_eig(par, order, x, work),
+        Cone::PSD(order) => eig::map_eig(par, order, x, work),
     }
 }

@@ -1,4 +1,4 @@
 // The cone list and the projections onto its cones.
 pub mod block;
-mod eig;
+pub mod product;
 pub mod words;

@@ -1,8 +1,17 @@
 // A list of blocks: each has its part of the lent slice, in list order.
-use crate::block::{is_within, proj, sweeps_fit};
-use crate::words::{cone_work_len, is_bad_cone, places_of, read_word};
-use rules::{Cone, Product, Projection, SolverParam, Word, PLACES};
-
+use crate::block::is_within;
+use crate::block::proj;
+use crate::block::sweeps_fit;
+use crate::words::cone_work_len;
+use crate::words::is_bad_cone;
+use crate::words::places_of;
+use crate::words::read_word;
+use rules::Cone;
+use rules::PLACES;
+use rules::Product;
+use rules::Projection;
+use rules::SolverParam;
+use rules::Word;
 ghost use Prim.Native.Nat.{ℕ, _<_};
 ghost use mathlib.Core.Path.{_≡_};
 ghost use mathlib.Core.Bool.{true};
@@ -81,7 +90,13 @@ fn proj_all(par: SolverParam, dual: bool, words: &[u16], x: &mut [f64], work: &m
 
 // Projects each block of a list, and stops at the first that fails: the answer names it, counted from 0. Where the list, a length or the
 // sweep limit doesn't fit, it answers no and changes nothing.
-pub fn product_proj(par: SolverParam, dual: bool, words: &[u16], x: &mut [f64], work: &mut [f64]) -> Product
+pub fn product_proj(
+    par: SolverParam,
+    dual: bool,
+    words: &[u16],
+    x: &mut [f64],
+    work: &mut [f64],
+) -> Product
     ensures { λ r. ⌜ ProductOutcome (productFits par (now (words .entry)) (now (x .entry)) (now (work .entry))) (projAll par dual (blocksOf (now (words .entry))) (now (x .entry)) (now (work .entry))) (now (x .entry)) (now (work .entry)) r (now (x .exit)) (now (work .exit)) ⌝ }
 {
     if !product_fits(par, words, x.len(), work.len()) {

@@ -1,16 +1,16 @@
 -- Laws of the cone product: a walk along the words of a list, block by block.
-use Prim.Native.Nat.{ℕ, zero, suc, _+_, _-_, _*_, _/_, _≤_, _<_, max}
-use native.Mathlib.Nat.{mul-le-mul, add-assoc, zero-add, add-zero, add-suc}
+use Prim.Native.Nat.{ℕ, suc, _+_, _-_, _*_, _/_, _≤_, _<_, max}
+use native.Mathlib.Nat.{mul-le-mul, add-assoc, zero-add, add-zero}
 use native.Mathlib.Numerals.{add-one}
 use native.Mathlib.Omega.{arith}
 use mathlib.Core.Path.{_≡_, refl, sym, _∙_, ap}
 use mathlib.Core.Bool.{Bool, true, false, cond, not, _&&_}
 use mathlib.Core.List.{List, [], _∷_, _++_, append-assoc}
 use borrow.Author.Tests.{leb-true, leb-false, not-true, eq-eqb, le-leb}
-use lib.Dec.{leb, eqb}
+use lib.Dec.{leb}
 use lib.Ieee.{Float}
-use lib.ListN.{length, getD, take, drop, take-append-drop, length-append, length-take, length-drop}
-use lib.Seq.{take-at, drop-at, drop-drop, length-take-le}
+use lib.ListN.{length, getD, take, drop, take-append-drop, length-append, length-drop}
+use lib.Seq.{take-at, drop-at, length-take-le}
 use Rattle.rules.specs.declared.Cone.{Cone}
 use Rattle.rules.specs.declared.Cone.the-variants.{Zero, RPos, SOC, RotSOC, PSD}
 use Rattle.rules.specs.declared.Word.the-variants.{Block, Bad}
@@ -19,13 +19,12 @@ use Rattle.rules.specs.declared.Projection.{Projection}
 use Rattle.rules.specs.declared.Product.the-variants.{Done as ProductDone, Failed as ProductFailed}
 use Rattle.rules.specs.declared.SolverParam.{SolverParam}
 use Rattle.rules.specs.Limits.{limit, mostPlaces}
-use Rattle.rules.specs.Matrices.{triangle}
 use Rattle.rules.specs.Arithmetic.{_*ᶠ_, at, each}
 use Rattle.rules.specs.Helpers.{smaller}
 use Rattle.rules.specs.Jacobi.{Turning, sweeps}
 use Rattle.rules.specs.Blocks.{readWord, blocksOf, places, isBadCone}
-use Rattle.rules.specs.Projections.{Projected, diagonalTimes, unit, √2, projBlock, projPSD, blockWork, sweepsFit, sizesFit, blockFits, answerOf, BlockOutcome}
-use Rattle.rules.specs.Product.{Failure, none, block, oneLater, Passed, projAll, smallestTo, grouped, groupBlock, groupAll, coneWork, blocksWithin, sumsFit, listFits, productFits, productAnswer, ProductOutcome}
+use Rattle.rules.specs.Projections.{Projected, diagonalTimes, unit, √2, projBlock, projPSD, blockWork, sweepsFit, blockFits, answerOf, BlockOutcome}
+use Rattle.rules.specs.Product.{Failure, none, block, oneLater, Passed, projAll, smallestTo, grouped, groupBlock, groupAll, coneWork, blocksWithin, sumsFit, listFits, productFits, ProductOutcome}
 use Rattle.rules.proofs.Blocks.{blocks-block, blocks-end, bad-word, bad-long, bad-more}
 use Rattle.rules.proofs.Jacobi.{rotations-bounded}
 use Rattle.rules.proofs.Outcome.{block-answered, block-ruled}
@@ -37,6 +36,7 @@ both s t e = (go s t e, go' s t e)
     go : (s t : Bool) → (s && t) ≡ true → s ≡ true
     go true t e = refl
     go false t e = e
+
     go' : (s t : Bool) → (s && t) ≡ true → t ≡ true
     go' true t e = e
     go' false true e = refl
@@ -167,7 +167,7 @@ module _ {words : List ℕ} {xs₀ : List Float} {i a : ℕ} {xs : List Float} (
         let n : length y ≡ p = rw ke at kept ∙ part-length a p xs l in
         let is' : y ≡ groupBlock b (take p (drop a xs)) = rw ke at is in
         let all : take a xs ++ (groupBlock b (take p (drop a xs)) ++ groupAll (blocksOf (drop (i + 1) words)) (drop p (drop a xs))) ≡ groupAll (blocksOf words) xs₀
-            = rw (blocks-block words i h b e) at (g .whole) in
+        = rw (blocks-block words i h b e) at (g .whole) in
         rw (ke, ee)
         (record {
           walk = walk-more (g .walk) h b e;
@@ -353,9 +353,9 @@ module _ {par : SolverParam} {dual : Bool} {words : List ℕ} {x₀ work₀ : Li
           let m : length y ≡ k = kept ∙ part-length a k x l in
           let rest = projAll par dual (blocksOf (drop (i + 1) words)) (drop k (drop a x)) w in
           let all : continued (take a x) q n (projAll par dual (b ∷ blocksOf (drop (i + 1) words)) (drop a x) work) ≡ projAll par dual (blocksOf words) x₀ work₀
-              = rw (blocks-block words i h b e) at (g .whole) in
+          = rw (blocks-block words i h b e) at (g .whole) in
           let step : projAll par dual (b ∷ blocksOf (drop (i + 1) words)) (drop a x) work ≡ made (y ++ rest .cone) (rest .work) (r + rest .rotations) (oneLater (rest .failure))
-              = rw (left .0, left .1, ← s .1) (pass-more par dual b (blocksOf (drop (i + 1) words)) (drop a x) work k ke (s .0)) in
+          = rw (left .0, left .1, ← s .1) (pass-more par dual b (blocksOf (drop (i + 1) words)) (drop a x) work k ke (s .0)) in
           rw ee
           (record {
             walk = rw ke (walk-more (g .walk) h b e);
@@ -373,7 +373,7 @@ module _ {par : SolverParam} {dual : Bool} {words : List ℕ} {x₀ work₀ : Li
       projecting-failed r is =
           let s = answer-failed (projBlock par dual b (take k (drop a x)) work) r (sym is ∙ answered) in
           let all : continued (take a x) q n (projAll par dual (b ∷ blocksOf (drop (i + 1) words)) (drop a x) work) ≡ projAll par dual (blocksOf words) x₀ work₀
-              = rw (blocks-block words i h b e) at (g .whole) in
+          = rw (blocks-block words i h b e) at (g .whole) in
           let step : projAll par dual (b ∷ blocksOf (drop (i + 1) words)) (drop a x) work ≡ made (y ++ drop k (drop a x)) w r (block 0)
-              = rw (left .0, left .1, ← s .1) (pass-failed par dual b (blocksOf (drop (i + 1) words)) (drop a x) work k ke (s .0)) in
+          = rw (left .0, left .1, ← s .1) (pass-failed par dual b (blocksOf (drop (i + 1) words)) (drop a x) work k ke (s .0)) in
           rw (← all, step) (record { answered = rw (add-zero n); cone-left = refl; work-left = refl })

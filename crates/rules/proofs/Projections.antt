@@ -1,10 +1,10 @@
 -- Laws of the projections: what each kind's rule comes to, over the whole block.
-use Prim.Native.Nat.{ℕ, zero, suc, _+_, _-_, _*_, _≤_, _<_}
+use Prim.Native.Nat.{suc, _-_, _≤_, _<_}
 use native.Mathlib.Omega.{arith}
-use mathlib.Core.Path.{_≡_, refl, sym, _∙_, ap}
-use mathlib.Core.Bool.{Bool, true, false, cond}
+use mathlib.Core.Path.{_≡_, refl, _∙_}
+use mathlib.Core.Bool.{true, false}
 use mathlib.Core.List.{List, [], _∷_, _++_, append-nil}
-use lib.Ieee.{Float, nan, binary64, ofBits, le, neg, add, sub, div}
+use lib.Ieee.{Float, binary64, ofBits, le, neg, add}
 use lib.ListN.{length, take, drop, set}
 use lib.Seq.{take-length, drop-length}
 use Rattle.rules.specs.Arithmetic.{_+ᶠ_, _-ᶠ_, _/ᶠ_, +0, at}

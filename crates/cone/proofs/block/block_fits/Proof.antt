@@ -1,10 +1,7 @@
 -- `cone::block::block_fits` meets its contract.
 use borrow.Author.Needs.{needs}
 use native.Mathlib.Omega.{arith}
-use Prim.Native.Nat.{ℕ, _+_, _-_, _*_, _≤_, _<_}
-use mathlib.Core.Path.{_≡_, refl, sym, ap, _∙_}
-use lib.ListN.{length, getD, set, length-set}
-use borrow.Author.Needs.{needs}
+use mathlib.Core.Path.{_≡_, sym, _∙_}
 use Rattle.rules.specs.Blocks.{places}
 use borrow.Author.Tests.{not-true, not-false, leb-true, eq-eqb, ne-eqb, le-leb, lt-leb}
 use lib.Dec.{leb}
@@ -13,12 +10,6 @@ use Rattle.rules.specs.Projections.{blockWork}
 use lib.Dec.{eqb}
 use Rattle.cone.proofs.block.block_fits.Statement.{statement}
 use Rattle.cone.proofs.block.block_fits.Tie as tie
-use Rattle.cone.proofs.block.block_fits.Reads as reads
-use Rattle.cone.proofs.block.block_fits.Lts as lts
-use Rattle.cone.proofs.block.is_within.Reads as is-within-reads
-use Rattle.cone.proofs.block.sweeps_fit.Reads as sweeps-fit-reads
-use Rattle.cone.proofs.words.block_work.Reads as block-work-reads
-use Rattle.cone.proofs.words.places_of.Reads as places-of-reads
 
 is-within-requires : tie.Need-is-within-requires
 is-within-requires c κs = search needs

@@ -1,15 +1,8 @@
 -- `cone::block::half_turn` meets its contract.
 use borrow.Author.Needs.{needs}
-use native.Mathlib.Omega.{arith}
-use Prim.Native.Nat.{ℕ, _+_, _-_, _*_, _≤_, _<_}
-use mathlib.Core.Path.{_≡_, refl, sym, ap, _∙_}
-use lib.ListN.{length, getD, set, length-set}
-use borrow.Author.Needs.{needs}
 use Rattle.rules.proofs.Projections.{turn-none, turn-more, root-two-is}
 use Rattle.cone.proofs.block.half_turn.Statement.{statement}
 use Rattle.cone.proofs.block.half_turn.Tie as tie
-use Rattle.cone.proofs.block.half_turn.Reads as reads
-use Rattle.cone.proofs.block.half_turn.Lts as lts
 
 slice-read-r : tie.Need-slice-read-r
 slice-read-r c = search needs

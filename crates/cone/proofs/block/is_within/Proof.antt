@@ -1,18 +1,13 @@
 -- `cone::block::is_within` meets its contract: an order above the limit has a triangle above it, and of another nothing overflows.
 use borrow.Author.Needs.{needs}
 use native.Mathlib.Omega.{arith}
-use Prim.Native.Nat.{ℕ, _+_, _-_, _*_, _/_, _≤_, _<_}
-use mathlib.Core.Path.{_≡_, refl, sym, ap, _∙_}
-use lib.ListN.{length, getD, set, length-set}
-use borrow.Author.Needs.{needs}
-use Rattle.rules.proofs.Blocks.{twice-triangle}
+use Prim.Native.Nat.{_+_, _*_, _/_, _≤_}
+use mathlib.Core.Path.{sym}
 use borrow.Author.Tests.{lt-leb}
 use native.Mathlib.Nat.{mul-le-mul}
 use Rattle.rules.proofs.Blocks.{order-in-triangle}
 use Rattle.cone.proofs.block.is_within.Statement.{statement}
 use Rattle.cone.proofs.block.is_within.Tie as tie
-use Rattle.cone.proofs.block.is_within.Reads as reads
-use Rattle.cone.proofs.block.is_within.Lts as lts
 
 enum-known-cone : tie.Need-enum-known-cone
 enum-known-cone c = search needs

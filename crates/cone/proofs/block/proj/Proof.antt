@@ -1,23 +1,11 @@
 -- `cone::block::proj` meets its contract.
 use borrow.Author.Needs.{needs}
-use native.Mathlib.Omega.{arith}
-use Prim.Native.Nat.{ℕ, _+_, _-_, _*_, _≤_, _<_}
-use mathlib.Core.Path.{_≡_, refl, sym, ap, _∙_}
-use lib.ListN.{length, getD, set, length-set}
-use borrow.Author.Needs.{needs}
+use mathlib.Core.Path.{sym, _∙_}
 use borrow.Author.Tests.{not-true, not-false}
 use Rattle.rules.proofs.Outcome.{block-refused, block-done}
 use Rattle.rules.specs.Projections.{projBlock}
 use Rattle.cone.proofs.block.proj.Statement.{statement}
 use Rattle.cone.proofs.block.proj.Tie as tie
-use Rattle.cone.proofs.block.proj.Reads as reads
-use Rattle.cone.proofs.block.proj.Lts as lts
-use Rattle.cone.proofs.block.block_fits.Reads as block-fits-reads
-use Rattle.cone.proofs.block.proj_rotsoc.Reads as proj-rotsoc-reads
-use Rattle.cone.proofs.block.proj_rpos.Reads as proj-rpos-reads
-use Rattle.cone.proofs.block.proj_soc.Reads as proj-soc-reads
-use Rattle.cone.proofs.block.proj_zero.Reads as proj-zero-reads
-use Rattle.cone.proofs.eig.map_eig.Reads as map-eig-reads
 
 block-fits-requires : tie.Need-block-fits-requires
 block-fits-requires c κs = search needs

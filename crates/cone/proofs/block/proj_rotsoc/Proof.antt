@@ -1,18 +1,8 @@
 -- `cone::block::proj_rotsoc` meets its contract.
 use borrow.Author.Needs.{needs}
-use native.Mathlib.Omega.{arith}
-use Prim.Native.Nat.{ℕ, _+_, _-_, _*_, _≤_, _<_}
-use mathlib.Core.Path.{_≡_, refl, sym, ap, _∙_}
-use lib.ListN.{length, getD, set, length-set}
-use borrow.Author.Needs.{needs}
 use Rattle.rules.proofs.Projections.{rotated-one, rotated-more}
 use Rattle.cone.proofs.block.proj_rotsoc.Statement.{statement}
 use Rattle.cone.proofs.block.proj_rotsoc.Tie as tie
-use Rattle.cone.proofs.block.proj_rotsoc.Reads as reads
-use Rattle.cone.proofs.block.proj_rotsoc.Lts as lts
-use Rattle.cone.proofs.block.half_turn.Reads as half-turn-reads
-use Rattle.cone.proofs.block.proj_soc.Reads as proj-soc-reads
-use Rattle.float.proofs.larger.Reads as larger-reads
 
 slice-read-larger : tie.Need-slice-read-larger
 slice-read-larger c = search needs

@@ -1,20 +1,14 @@
 -- `cone::block::proj_rpos` meets its contract.
 use borrow.Author.Needs.{needs}
-use native.Mathlib.Omega.{arith}
-use Prim.Native.Nat.{ℕ, _+_, _-_, _*_, _≤_, _<_}
-use mathlib.Core.Path.{_≡_, refl, sym, ap, _∙_}
-use lib.ListN.{length, getD, set, length-set}
+use Prim.Native.Nat.{_-_}
+use mathlib.Core.Path.{_≡_, refl}
+use lib.ListN.{length}
 use Rattle.rules.proofs.Arithmetic.{Reached, reached-none, reached-more, reached-all}
 use Rattle.rules.specs.Projections.{projRPos}
 use Rattle.rules.specs.Helpers.{larger}
 use Rattle.rules.specs.Arithmetic.{+0}
-use lib.Ieee.{Float}
-use Rattle.rules.specs.Arithmetic.{at}
 use Rattle.cone.proofs.block.proj_rpos.Statement.{statement}
 use Rattle.cone.proofs.block.proj_rpos.Tie as tie
-use Rattle.cone.proofs.block.proj_rpos.Reads as reads
-use Rattle.cone.proofs.block.proj_rpos.Lts as lts
-use Rattle.float.proofs.larger.Reads as larger-reads
 
 abbrev Inv-loop : tie.InvT-loop
 Inv-loop x₀ i₀ i-end x i = Reached (λ k v. larger v +0) i x₀ x × (i-end ≡ length x₀)

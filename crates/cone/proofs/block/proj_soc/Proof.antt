@@ -1,17 +1,8 @@
 -- `cone::block::proj_soc` meets its contract: its four ways are those of the rule.
 use borrow.Author.Needs.{needs}
-use native.Mathlib.Omega.{arith}
-use Prim.Native.Nat.{ℕ, _+_, _-_, _*_, _≤_, _<_}
-use mathlib.Core.Path.{_≡_, refl, sym, ap, _∙_}
-use lib.ListN.{length, getD, set, length-set}
-use borrow.Author.Needs.{needs}
 use Rattle.rules.proofs.Projections.{soc-none, soc-apex, soc-inside, soc-outside, one-is, two-is}
 use Rattle.cone.proofs.block.proj_soc.Statement.{statement}
 use Rattle.cone.proofs.block.proj_soc.Tie as tie
-use Rattle.cone.proofs.block.proj_soc.Reads as reads
-use Rattle.cone.proofs.block.proj_soc.Lts as lts
-use Rattle.linalg.proofs.norm.Reads as norm-reads
-use Rattle.linalg.proofs.scale.Reads as scale-reads
 
 slice-read-s : tie.Need-slice-read-s
 slice-read-s c = search needs

@@ -1,17 +1,9 @@
 -- `cone::block::proj_zero` meets its contract.
 use borrow.Author.Needs.{needs}
-use native.Mathlib.Omega.{arith}
-use Prim.Native.Nat.{ℕ, _+_, _-_, _*_, _≤_, _<_}
-use mathlib.Core.Path.{_≡_, refl, sym, ap, _∙_}
-use lib.ListN.{length, getD, set, length-set}
-use borrow.Author.Needs.{needs}
 use Rattle.rules.specs.Projections.{projZero}
 use borrow.Author.Tests.{not-true, not-false}
 use Rattle.cone.proofs.block.proj_zero.Statement.{statement}
 use Rattle.cone.proofs.block.proj_zero.Tie as tie
-use Rattle.cone.proofs.block.proj_zero.Reads as reads
-use Rattle.cone.proofs.block.proj_zero.Lts as lts
-use Rattle.linalg.proofs.scale.Reads as scale-reads
 
 scale-requires : tie.Need-scale-requires
 scale-requires c κs = search needs

@@ -1,14 +1,7 @@
 -- `cone::block::sweeps_fit` meets its contract.
-use borrow.Author.Needs.{needs}
-use native.Mathlib.Omega.{arith}
-use Prim.Native.Nat.{ℕ, _+_, _-_, _*_, _≤_, _<_}
-use mathlib.Core.Path.{_≡_, refl, sym, ap, _∙_}
-use lib.ListN.{length, getD, set, length-set}
 use borrow.Author.Tests.{le-leb, lt-leb}
 use Rattle.cone.proofs.block.sweeps_fit.Statement.{statement}
 use Rattle.cone.proofs.block.sweeps_fit.Tie as tie
-use Rattle.cone.proofs.block.sweeps_fit.Reads as reads
-use Rattle.cone.proofs.block.sweeps_fit.Lts as lts
 
 returns : tie.Need-returns
 returns c = rw (lt-leb 1 (c .before .before .args .par .«sweep_limit») (c .if1 .taken))

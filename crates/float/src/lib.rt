@@ -1,6 +1,7 @@
 // The float helpers of document 01: each answers for every f64.
-pub mod root;
+mod roots;
 
+pub use roots::root;
 ghost use mathlib.Core.Path.{_≡_};
 ghost use Rattle.rules.specs.Helpers as rules;
 

@@ -1,5 +1,5 @@
 -- Laws of the cone product: a walk along the words of a list, block by block.
-use Prim.Native.Nat.{ℕ, suc, _+_, _-_, _*_, _/_, _≤_, _<_, max}
+use Prim.Native.Nat.{ℕ, zero, suc, _+_, _-_, _*_, _≤_, _<_, max}
 use native.Mathlib.Nat.{mul-le-mul, add-assoc, zero-add, add-zero}
 use native.Mathlib.Numerals.{add-one}
 use native.Mathlib.Omega.{arith}
@@ -19,14 +19,14 @@ use Rattle.rules.specs.declared.Projection.{Projection}
 use Rattle.rules.specs.declared.Product.the-variants.{Done as ProductDone, Failed as ProductFailed}
 use Rattle.rules.specs.declared.SolverParam.{SolverParam}
 use Rattle.rules.specs.Limits.{limit, mostPlaces}
-use Rattle.rules.specs.Arithmetic.{_*ᶠ_, at, each}
+use Rattle.rules.specs.Arithmetic.{at, each}
 use Rattle.rules.specs.Helpers.{smaller}
-use Rattle.rules.specs.Jacobi.{Turning, sweeps}
 use Rattle.rules.specs.Blocks.{readWord, blocksOf, places, isBadCone}
-use Rattle.rules.specs.Projections.{Projected, diagonalTimes, unit, √2, projBlock, projPSD, blockWork, sweepsFit, blockFits, answerOf, BlockOutcome}
+use Rattle.rules.specs.Projections.{Projected, projBlock, blockWork, sweepsFit, blockFits, answerOf, BlockOutcome}
 use Rattle.rules.specs.Product.{Failure, none, block, oneLater, Passed, projAll, smallestTo, grouped, groupBlock, groupAll, coneWork, blocksWithin, sumsFit, listFits, productFits, ProductOutcome}
-use Rattle.rules.proofs.Blocks.{blocks-block, blocks-end, bad-word, bad-long, bad-more}
-use Rattle.rules.proofs.Jacobi.{rotations-bounded}
+use Rattle.rules.specs.Demands.{pairsTwice}
+use Rattle.rules.proofs.Blocks.{twice-triangle, blocks-block, blocks-end, bad-word, bad-long, bad-more}
+use Rattle.rules.proofs.Rotations.{block-bounded}
 use Rattle.rules.proofs.Outcome.{block-answered, block-ruled}
 
 -- two tests that both hold
@@ -183,33 +183,20 @@ module _ {words : List ℕ} {xs₀ : List Float} {i a : ℕ} {xs : List Float} (
 
 -- ---- how many rotations a block takes: at most one for each place and sweep
 
-psd-rotations : (par : SolverParam) (n : ℕ) (x work : List Float) → (projPSD par n x work) .rotations ≤ par .«sweep_limit» * (n * (n - 1) / 2)
-unfolding projPSD
-psd-rotations par n x work =
-    let start : Turning = record { matrix = diagonalTimes √2 n x; vectors = unit n; rotations = 0 } in
-    let swept = sweeps n (par .«eps_zero» *ᶠ par .«eps_zero») (par .«sweep_limit») start in
-    either (swept .succeeded) _ _ (par .«sweep_limit» * (n * (n - 1) / 2))
-    (omega (arith, rotations-bounded n (par .«eps_zero» *ᶠ par .«eps_zero») (par .«sweep_limit») start))
-    (omega (arith, rotations-bounded n (par .«eps_zero» *ᶠ par .«eps_zero») (par .«sweep_limit») start))
-  where
-    either : (t : Bool) (p q : Projected) (most : ℕ) → p .rotations ≤ most → q .rotations ≤ most → (cond t p q) .rotations ≤ most
-    either true p q most hp hq = hp
-    either false p q most hp hq = hq
-
-pairs-in-triangle : (n : ℕ) → n * (n - 1) / 2 ≤ n * (n + 1) / 2
-pairs-in-triangle n =
-    let less : n - 1 ≤ n + 1 = omega arith in
-    let same : n ≤ n = omega arith in
-    omega (arith, mul-le-mul same less)
+pairs-in-places : (b : Cone) → pairsTwice b ≤ 2 * places b
+pairs-in-places (Zero size) = omega arith
+pairs-in-places (RPos size) = omega arith
+pairs-in-places (SOC size) = omega arith
+pairs-in-places (RotSOC size) = omega arith
+pairs-in-places (PSD zero) = omega arith
+pairs-in-places (PSD (suc n)) =
+    let same : suc n ≤ suc n = omega arith in
+    let less : suc n - 1 ≤ suc n = omega arith in
+    omega (arith, mul-le-mul same less, twice-triangle (suc n))
 
 pub block-rotations : (par : SolverParam) (dual : Bool) (b : Cone) (x work : List Float) → sweepsFit par ≡ true → (projBlock par dual b x work) .rotations ≤ 64 * places b
-unfolding projBlock
-block-rotations par dual (Zero size) x work e = omega arith
-block-rotations par dual (RPos size) x work e = omega arith
-block-rotations par dual (SOC size) x work e = omega arith
-block-rotations par dual (RotSOC size) x work e = omega arith
-block-rotations par dual (PSD n) x work e =
-    omega (arith, psd-rotations par n x work, mul-le-mul (leb-true (par .«sweep_limit») 64 (both (leb 1 (par .«sweep_limit»)) (leb (par .«sweep_limit») 64) e .1)) (pairs-in-triangle n))
+block-rotations par dual b x work e =
+    omega (arith, block-bounded par dual b x work, mul-le-mul (leb-true (par .«sweep_limit») 64 (both (leb 1 (par .«sweep_limit»)) (leb (par .«sweep_limit») 64) e .1)) (pairs-in-places b))
 
 -- ---- projecting
 

@@ -22,7 +22,7 @@ equals-itself (inf false) = refl
 equals-itself (fin true m e) = ap (λ (b : Bool). b && true) (is-true (eqb (m * up e * down e) (m * up e * down e)) (eqb-refl (m * up e * down e)))
 equals-itself (fin false m e) = ap (λ (b : Bool). b && true) (is-true (eqb (m * up e * down e) (m * up e * down e)) (eqb-refl (m * up e * down e)))
 
-only-nan : (x : Float) → isNan x ≡ true → x ≡ nan
+pub only-nan : (x : Float) → isNan x ≡ true → x ≡ nan
 unfolding isNan
 only-nan nan e = refl
 only-nan (inf s) e = absurd (false≢true e)

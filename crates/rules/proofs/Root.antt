@@ -1,15 +1,15 @@
--- The laws of the root over whole numbers.
+-- The laws of the root over whole numbers: `wholeRoot` is the whole root, and the root of a number of known length is the nearest number of that length. Assumes nothing.
 use Prim.Native.Nat.{ℕ, zero, suc, _+_, _-_, _*_, _/_, _%_, _^_, _≤_, _<_, compare, Ordering, Ordering·lt, Ordering·eq, Ordering·gt}
 use native.Mathlib.Numerals.{add-one}
-use native.Mathlib.Nat.{le-antisymm, le-of-suc-le-suc, not-suc-le-zero, le-refl, le-trans, le-of-eq, le-of-lt, lt-of-lt-of-le, lt-of-le-of-lt, lt-of-not-le, not-le-of-lt, zero-mul, one-mul, mul-one, mul-assoc, mul-comm, mul-right-comm, mul-add, add-mul, mul-mul-mul-comm, mul-le-mul, mul-le-mul-left, mul-le-mul-right, mul-pos, mul-lt-mul-of-pos-right, lt-of-mul-lt-mul-right, le-of-mul-le-mul-right, mul-div-cancel, div-mul-le-self, lt-div-mul-add, div-lt-iff-lt-mul, le-div-iff-mul-le, zero-div, pow-succ'}
+use native.Mathlib.Nat.{le-antisymm, le-of-suc-le-suc, not-suc-le-zero, le-trans, le-of-eq, le-of-lt, lt-of-lt-of-le, lt-of-le-of-lt, lt-of-not-le, not-le-of-lt, one-mul, mul-one, mul-assoc, mul-add, add-mul, mul-mul-mul-comm, mul-le-mul, mul-le-mul-left, mul-le-mul-right, mul-pos, mul-lt-mul-of-pos-right, lt-of-mul-lt-mul-right, le-of-mul-le-mul-right, div-mul-le-self, lt-div-mul-add, le-div-iff-mul-le, pow-succ'}
 use native.Mathlib.Omega.{arith}
 use mathlib.Core.Path.{_≡_, refl, sym, ap, _∙_, subst}
 use mathlib.Core.Logic.{_⊎_, inl, inr}
 use mathlib.Core.Bool.{Bool, true, false, not, cond}
-use lib.Dec.{T, isLe, isEq, leb, ltb, leb→le, nleb→lt, eqb→eq}
-use lib.Pow.{pow-pos, pow-mono, pow-lt, pow-add}
-use lib.Ieee.{Float, nan, inf, fin, Format, binary64, prec, emax, low, up, down, size, nearest, odd, units, fits}
-use lib.Ieee.Digits.{size-lt, size-le, size-reaches}
+use lib.Dec.{T, isLe, isEq, leb, leb→le, nleb→lt, eqb→eq}
+use lib.Pow.{pow-pos, pow-mono, pow-add}
+use lib.Ieee.{binary64, size, nearest, odd, units}
+use lib.Ieee.Digits.{size-lt, size-le}
 use Rattle.rules.specs.Root.{rootDigits, wholeRoot, rootOfUnits, root}
 
 -- ---- squares
@@ -17,7 +17,7 @@ use Rattle.rules.specs.Root.{rootDigits, wholeRoot, rootOfUnits, root}
 abbrev sq : ℕ → ℕ
 sq a = a * a
 
-sq-twice : (a : ℕ) → 2 * a * (2 * a) ≡ 4 * (a * a)
+pub sq-twice : (a : ℕ) → 2 * a * (2 * a) ≡ 4 * (a * a)
 sq-twice a = mul-mul-mul-comm 2 a 2 a
 
 sq-next : (a : ℕ) → (a + 1) * (a + 1) ≡ a * a + 2 * a + 1
@@ -26,10 +26,10 @@ sq-next a = mul-add (a + 1) a 1 ∙ ap (λ (x : ℕ). x + (a + 1) * 1) (add-mul 
     sum : (s a : ℕ) → s + 1 * a + (a + 1) ≡ s + 2 * a + 1
     sum s a = omega arith
 
-sq-mono : {a b : ℕ} → a ≤ b → a * a ≤ b * b
+pub sq-mono : {a b : ℕ} → a ≤ b → a * a ≤ b * b
 sq-mono h = mul-le-mul h h
 
-sq-lt-back : {a b : ℕ} → a * a < b * b → a < b
+pub sq-lt-back : {a b : ℕ} → a * a < b * b → a < b
 sq-lt-back h = lt-of-not-le (λ g. not-le-of-lt h (sq-mono g))
 
 -- ---- the whole root
@@ -72,17 +72,17 @@ wholeRoot-is n = rootDigits-is (size n) n (lt-of-lt-of-le (size-lt n) (le-trans 
 
 -- ---- the leading digits of the root
 
-one-more : (q k : ℕ) → (q + 1) * k ≡ q * k + k
+pub one-more : (q k : ℕ) → (q + 1) * k ≡ q * k + k
 one-more q k = add-mul q 1 k ∙ ap (λ (x : ℕ). q * k + x) (one-mul k)
 
 one-up : (r y x : ℕ) → r < x → y ≡ x → r + 1 ≤ y
 one-up r y x h e = omega arith
 
 -- q is the leading digits of √w where the digits below 2 ^ k are dropped
-abbrev Leading : ℕ → ℕ → ℕ → Type 0
+abbrev pub Leading : ℕ → ℕ → ℕ → Type 0
 Leading q k w = (q * k * (q * k) ≤ w) × (w < (q + 1) * k * ((q + 1) * k))
 
-leading : (w k : ℕ) → 0 < k → Leading (wholeRoot w / k) k w
+pub leading : (w k : ℕ) → 0 < k → Leading (wholeRoot w / k) k w
 leading w k pos =
     let r = wholeRoot w in
     let q = r / k in (
@@ -91,11 +91,11 @@ leading w k pos =
     )
 
 -- twice the middle between q * k and (q + 1) * k, squared
-abbrev middle : ℕ → ℕ → ℕ
+abbrev pub middle : ℕ → ℕ → ℕ
 middle q k = (2 * q + 1) * (2 * q + 1) * (k * k)
 
 -- what `nearest` picks: q where w is at most the middle, the next number where w is at least that
-abbrev Picked : ℕ → ℕ → ℕ → ℕ → Type 0
+abbrev pub Picked : ℕ → ℕ → ℕ → ℕ → Type 0
 Picked n q k w = ((n ≡ q) × (4 * w ≤ middle q k)) ⊎ ((n ≡ q + 1) × (middle q k ≤ 4 * w))
 
 at-tie : (q a b : ℕ) → a ≡ b → (((q + q % 2) ≡ q) × (a ≤ b)) ⊎ (((q + q % 2) ≡ q + 1) × (b ≤ a))
@@ -105,7 +105,7 @@ at-tie q a b e = go (q % 2) refl
     go zero h = inl (omega arith, omega arith)
     go (suc r) h = inr (omega arith, omega arith)
 
-picked : (q k w : ℕ) → Picked (nearest q (compare (4 * w) (middle q k))) q k w
+pub picked : (q k w : ℕ) → Picked (nearest q (compare (4 * w) (middle q k))) q k w
 picked q k w = go (compare (4 * w) (middle q k)) refl
   where
     go : (o : Ordering) → compare (4 * w) (middle q k) ≡ o → Picked (nearest q o) q k w
@@ -137,11 +137,11 @@ one-below (suc c) b n l h =
     sum : (a c² b² : ℕ) → a ≡ c² + 2 * c + 1 → b² ≤ c² → n ≤ b² + b → n + suc c ≤ a
     sum a c² b² e m h = omega arith
 
-nearest-le : (a b n : ℕ) → NearestRoot a n → NearestRoot b n → a ≤ b
-nearest-le a b n p q = le-of-suc-le-suc (lt-of-not-le (λ l. not-le-of-lt (p .0) (one-below a b n l (q .1))))
+nearest-root-le : (a b n : ℕ) → NearestRoot a n → NearestRoot b n → a ≤ b
+nearest-root-le a b n p q = le-of-suc-le-suc (lt-of-not-le (λ l. not-le-of-lt (p .0) (one-below a b n l (q .1))))
 
 pub nearest-root-unique : (a b n : ℕ) → NearestRoot a n → NearestRoot b n → a ≡ b
-nearest-root-unique a b n p q = le-antisymm (nearest-le a b n p q) (nearest-le b a n q p)
+nearest-root-unique a b n p q = le-antisymm (nearest-root-le a b n p q) (nearest-root-le b a n q p)
 
 -- q is the leading digits of √n, and x what `nearest` picks by 4 * n against (2 * q + 1) * (2 * q + 1), which is odd
 odd-middle : (x q n s t : ℕ) → s ≡ q * q → t ≡ 4 * s + 4 * q + 1 → s ≤ n → n < s + 2 * q + 1 → 0 < q → ((x ≡ q) × (4 * n ≤ t)) ⊎ ((x ≡ q + 1) × (t ≤ 4 * n)) → NearestRoot x n
@@ -159,7 +159,7 @@ middle-is q = sq-next (2 * q) ∙ sum (2 * q * (2 * q)) (q * q) (sq-twice q)
     sum : (a s : ℕ) → a ≡ 4 * s → a + 2 * (2 * q) + 1 ≡ 4 * s + 4 * q + 1
     sum a s e = omega arith
 
-shifted-sq : (a k : ℕ) → a * k * (a * k) ≡ a * a * (k * k)
+pub shifted-sq : (a k : ℕ) → a * k * (a * k) ≡ a * a * (k * k)
 shifted-sq a k = mul-mul-mul-comm a k a k
 
 unshift-le : (a b k : ℕ) → 0 < k → a * (k * k) ≤ b * (k * k) → a ≤ b
@@ -175,7 +175,6 @@ unshift-leading q n k pos h = (
   subst (λ (a : ℕ). n < a) (sq-next q) (lt-of-mul-lt-mul-right (k * k) (subst (λ (a : ℕ). n * (k * k) < a) (shifted-sq (q + 1) k) (h .1))),
 )
 
--- where the root has exactly the format's digits and k more, `rootOfUnits` is the nearest of those digits
 shifted-nearest : (n k : ℕ) → 0 < k → 0 < wholeRoot (n * (k * k)) / k
     → NearestRoot (nearest (wholeRoot (n * (k * k)) / k) (compare (4 * (n * (k * k))) (middle (wholeRoot (n * (k * k)) / k) k))) n
 shifted-nearest n k pos some =

@@ -1,12 +1,11 @@
--- The root by bit patterns: what a pattern's root is in whole numbers, and which pattern the answer has.
+-- The root by bit patterns: what a pattern's root is in whole numbers, and which pattern the answer has. Assumes nothing.
 use Prim.Native.Nat.{ℕ, zero, suc, _+_, _-_, _*_, _/_, _%_, _^_, _≤_, _<_}
-use native.Mathlib.Nat.{lt-of-not-le, not-le-of-lt, lt-of-le-of-lt, mul-le-mul-right, le-trans, le-of-eq, lt-of-lt-of-le, lt-irrefl, mul-one, one-mul, zero-mul, mul-assoc, mul-right-comm, mul-pos, mul-div-cancel, div-lt-iff-lt-mul, pow-suc, zero-lt-suc, mul-lt-mul-of-pos-right}
+use native.Mathlib.Nat.{lt-of-not-le, not-le-of-lt, lt-of-le-of-lt, mul-le-mul-right, le-trans, le-of-eq, lt-of-lt-of-le, lt-irrefl, mul-one, one-mul, zero-mul, mul-assoc, mul-right-comm, mul-pos, mul-div-cancel, div-lt-iff-lt-mul, pow-suc, zero-lt-suc}
 use native.Mathlib.Omega.{arith}
 use mathlib.Core.Path.{_≡_, refl, sym, ap, _∙_, subst}
 use mathlib.Core.Bool.{Bool, true, false, not, cond}
 use borrow.Author.Tests.{lt-leb, ne-eqb, lt-ltb}
-use lib.IntN.{ℤ}
-use lib.Dec.{T, leb, ltb, eqb, nltb→le}
+use lib.Dec.{T, leb, eqb, nltb→le}
 use lib.Arith.{le→nltb}
 use lib.Count.{trailingZeros, under}
 use lib.Pow.{pow-pos, pow-mono, pow-add, shl-lt}

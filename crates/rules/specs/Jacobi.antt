@@ -9,7 +9,7 @@ use Rattle.rules.specs.declared.MatType.the-variants.{General, SymPack}
 use Rattle.rules.specs.Helpers.{one, reciprocal}
 use Rattle.rules.specs.Root.{root}
 use Rattle.rules.specs.Arithmetic.{_+ᶠ_, _-ᶠ_, _*ᶠ_, _/ᶠ_, +0, byColumns}
-use Rattle.rules.specs.Matrices.{entry}
+use Rattle.rules.specs.Matrices.{triangle, entry}
 
 -- a symmetric matrix of order n as its upper triangle, and a square one, each by columns
 abbrev pub packed : ℕ → (ℕ → ℕ → Float) → List Float
@@ -24,6 +24,10 @@ inPacked n x r c = entry (SymPack (record { 0 = n })) x r c
 
 abbrev pub inSquare : ℕ → List Float → ℕ → ℕ → Float
 inSquare n z r c = entry (General (record { 0 = n }) (record { 0 = n })) z r c
+
+-- where the entry of row r and column c of a packed triangle is stored
+unfoldable pub packedPlace : ℕ → ℕ → ℕ
+packedPlace r c = cond (ltb r c) (triangle c + r) (triangle r + c)
 
 -- what Jacobi's method works on: the matrix, the vectors, and how many rotations were made
 pub record Turning : Type 0 where

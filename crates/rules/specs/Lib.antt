@@ -10,4 +10,11 @@ pub mod Blocks
 pub mod Jacobi
 pub mod Projections
 pub mod Product
+pub mod Problem
+pub mod Step
+pub mod Prepare
+pub mod Criteria
+pub mod Run
+pub mod Refusals
+pub mod Demands
 pub mod WorkedByHand

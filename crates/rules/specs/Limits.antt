@@ -5,6 +5,14 @@ use Prim.Native.Nat.{ℕ}
 abbrev pub limit : ℕ
 limit = 256
 
+-- "Cone list: 0 to 32 words."
+abbrev pub mostWords : ℕ
+mostWords = 32
+
+-- "max_iter: 0 to 1,000,000"
+abbrev pub mostSteps : ℕ
+mostSteps = 1000000
+
 -- "Sweep limit: 1 to 64"
 abbrev pub mostSweeps : ℕ
 mostSweeps = 64

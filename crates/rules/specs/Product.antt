@@ -1,7 +1,7 @@
 -- Document 01, "Port order", 6: the cone product: "blocks in list order; grouping gives each block of kinds 2, 3, 4 its smallest value."
 use Prim.Native.Nat.{ℕ, zero, suc, _+_, _*_, max}
 use mathlib.Core.Path.{_≡_}
-use mathlib.Core.Bool.{Bool, true, cond, not, _&&_}
+use mathlib.Core.Bool.{Bool, true, false, cond, not, _&&_}
 use lib.Dec.{leb}
 use mathlib.Core.List.{List, [], _∷_, _++_}
 use lib.Ieee.{Float}
@@ -21,6 +21,10 @@ use Rattle.rules.specs.Projections.{projBlock, blockWork, sweepsFit}
 pub data Failure : Type 0 where
   none : Failure
   block : ℕ → Failure
+
+abbrev pub isNone : Failure → Bool
+isNone none = true
+isNone (block b) = false
 
 abbrev pub oneLater : Failure → Failure
 oneLater none = none

@@ -4,13 +4,21 @@ use mathlib.Core.Path.{_≡_}
 use mathlib.Core.List.{List, [], _∷_}
 use lib.IntN.{pos, negsuc}
 use mathlib.Core.Bool.{false}
-use lib.Ieee.{Float, nan, fin, binary64, ofBits, ofInt, neg}
+use lib.ListN.{replicate}
+use lib.Ieee.{Float, nan, inf, fin, binary64, ofBits, ofInt, neg}
 use Rattle.rules.specs.declared.MatType.{MatType}
 use Rattle.rules.specs.declared.MatType.the-variants.{General, SymPack}
+use Rattle.rules.specs.declared.Storage.the-variants.{Dense}
+use Rattle.rules.specs.declared.Answer.{Answer}
+use Rattle.rules.specs.declared.Ending.{Ending}
+use Rattle.rules.specs.declared.Ending.the-variants.{Converged, ExcessIterUnscaled, WorkShortage}
 use Rattle.rules.specs.Arithmetic.{+0}
 use Rattle.rules.specs.Helpers.{larger, smaller}
 use Rattle.rules.specs.Matrices.{opped, transOpped, absaddedRows, absaddedCols}
 use Rattle.rules.specs.Projections.{projSOC}
+use Rattle.rules.specs.Problem.{Problem}
+use Rattle.rules.specs.Run.{Left}
+use Rattle.rules.specs.Refusals.{solved, turnedAway}
 use Rattle.rules.specs.Root.{root}
 
 -- A row says what a term of the rules comes to.
@@ -58,6 +66,27 @@ pair a b = a ∷ b ∷ []
 abbrev triple : Float → Float → Float → List Float
 triple a b c = a ∷ b ∷ c ∷ []
 
+-- n = m = 0, with the default tolerances but for eps_zero
+abbrev empty : ℕ → Float → Problem
+empty allowed eps =
+    record {
+      m = 0;
+      n = 0;
+      storage = Dense;
+      c = [];
+      a = [];
+      b = [];
+      words = [];
+      par = record { «max_iter» = allowed; «eps_acc» = f64 0x3eb0_c6f7_a0b5_ed8d; «eps_inf» = f64 0x3eb0_c6f7_a0b5_ed8d; «eps_zero» = eps; «sweep_limit» = 64 };
+    }
+
+-- places that held 5 before
+abbrev held : ℕ → List Float
+held k = replicate k (whole 5)
+
+abbrev answered : Ending → ℕ → ℕ → Answer
+answered e k q = record { ending = e; steps = k; rotations = q }
+
 abbrev pub table : List Row
 table =
     (root binary64 (whole 4) comes-to whole 2)
@@ -73,4 +102,7 @@ table =
     ∷ (projSOC (triple +0 (whole 3) (whole 4)) comes-to triple (f64 0x4004_0000_0000_0000) (f64 0x3ff8_0000_0000_0000) (whole 2))
     ∷ (projSOC (triple (whole 5) (whole 3) (whole 4)) comes-to triple (whole 5) (whole 3) (whole 4))
     ∷ (projSOC (triple (minus 5) (minus 3) (whole 4)) comes-to triple +0 −0 +0)
+    ∷ (solved (empty 1_000_000 (f64 0x3d71_9799_812d_ea11)) (held 6) [] .answer comes-to answered (Converged +0 +0 +0) 1 0)
+    ∷ (solved (empty 1 +0) (held 6) [] .answer comes-to answered (ExcessIterUnscaled (inf false) (inf false)) 1 0)
+    ∷ (solved (empty 1_000_000 (f64 0x3d71_9799_812d_ea11)) (held 5) [] comes-to turnedAway WorkShortage (held 5) [])
     ∷ []

@@ -34,6 +34,17 @@ pub enum Word {
 // The most sweeps that Jacobi's method may be allowed.
 pub const SWEEPS: u64 = 64;
 
+// How a matrix is stored: all of it by columns, or the upper triangle of a symmetric one.
+pub enum Storage {
+    Dense,
+    Packed,
+}
+
+// The largest max_iter, and the most cone words.
+pub const MOST_STEPS: u64 = 1000000;
+
+pub const WORDS: usize = 32;
+
 // The most places of a list of blocks: their rotations, at most SWEEPS a place, then fit 64 bits.
 pub const PLACES: usize = 288230376151711743;
 
@@ -60,4 +71,31 @@ pub enum Product {
     Done(u64),
     Failed(usize, u64),
     No,
+}
+
+// How a run ends, with the criteria that decided it, or why the hub is turned away.
+pub enum Ending {
+    BadParam,
+    TooLarge,
+    InvalidOp,
+    BadCone,
+    NotFinite,
+    WorkShortage,
+    // primal, dual, gap
+    Converged(f64, f64, f64),
+    // tau above eps_zero: primal, dual, gap
+    ExcessIter(f64, f64, f64),
+    // tau not above it: unbounded, infeasible
+    ExcessIterUnscaled(f64, f64),
+    Unbounded(f64),
+    Infeasible(f64),
+    // the block's number from 0
+    ConeFailure(usize),
+}
+
+// What a run answers: the ending, the steps k and the Jacobi rotations q.
+pub struct Answer {
+    pub ending: Ending,
+    pub steps: u64,
+    pub rotations: u64,
 }

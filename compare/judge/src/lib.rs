@@ -1,0 +1,12 @@
+//! The judge asks the original and writes down what it answers.
+
+pub mod cone_list;
+pub mod draw;
+pub mod lists;
+pub mod original;
+pub mod problem;
+pub mod random;
+pub mod seen;
+pub mod survey;
+pub mod text;
+pub mod words;

@@ -1,0 +1,181 @@
+//! A whole problem, and the run of the original on it.
+
+use totsu_core::solver::{Solver, SolverError};
+use totsu_core::{FloatGeneric, MatOp, MatType};
+
+use crate::cone_list::{work_len, Block, ConeList, Progress};
+use crate::original::{stops_on_column_sums, stops_on_row_sums};
+use crate::seen::{sight, watch, Number, Seen};
+
+pub struct Problem {
+    pub a_type: MatType,
+    pub c: Vec<f64>,
+    pub a: Vec<f64>,
+    pub b: Vec<f64>,
+    pub blocks: Vec<Block>,
+    pub max_iter: usize,
+    pub sweep_limit: usize,
+    pub eps_acc: f64,
+    pub eps_inf: f64,
+    pub eps_zero: f64,
+}
+
+#[derive(Clone, Copy, Debug, PartialEq)]
+pub enum Ending {
+    Converged([f64; 3]),
+    /// tau > eps_zero: x and y are scaled.
+    ExcessIter([f64; 3]),
+    ExcessIterUnscaled([f64; 2]),
+    Unbounded(f64),
+    Infeasible(f64),
+    ConeFailure(usize),
+}
+
+pub struct Answer {
+    pub ending: Ending,
+    /// Steps taken, and rotations made.
+    pub k: u64,
+    pub q: u64,
+    pub work: Vec<f64>,
+    pub cone_work: Vec<f64>,
+    /// Zeros that came out otherwise than the rule has it: see `seen`.
+    pub other_zeros: u64,
+}
+
+/// What the original itself says.
+pub struct Bare {
+    pub verdict: Result<(), SolverError>,
+    pub progress: Progress,
+    pub work: Vec<f64>,
+    pub cone_work: Vec<f64>,
+}
+
+impl Problem {
+    pub fn n(&self) -> usize {
+        self.a_type.size().1
+    }
+
+    pub fn m(&self) -> usize {
+        self.a_type.size().0
+    }
+
+    /// The original stops on this one: its A is empty in a way its sums don't bear.
+    pub fn stops(&self) -> bool {
+        stops_on_column_sums(self.a_type) || stops_on_row_sums(self.a_type)
+    }
+
+    /// One run over zeroed work. With plain f64 it may never come back: Jacobi has no limit.
+    pub fn run<F: Number>(&self) -> Bare {
+        let (m, n) = self.a_type.size();
+        let of = |xs: &[f64]| xs.iter().map(|x| F::of(*x)).collect::<Vec<F>>();
+        let plain = |xs: Vec<F>| xs.into_iter().map(F::plain).collect();
+        let (c, a, b) = (of(&self.c), of(&self.a), of(&self.b));
+
+        let work_places = Solver::<FloatGeneric<F>>::query_worklen((m, n));
+        let mut work = vec![F::zero(); work_places];
+        let mut cone_work = vec![F::zero(); work_len(&self.blocks)];
+        let mut progress = Progress::default();
+
+        let verdict = Solver::<FloatGeneric<F>>::new()
+            .par(|p| {
+                p.max_iter = Some(self.max_iter);
+                p.eps_acc = F::of(self.eps_acc);
+                p.eps_inf = F::of(self.eps_inf);
+                p.eps_zero = F::of(self.eps_zero);
+                p.log_period = 0;
+            })
+            .solve((
+                MatOp::new(MatType::General(n, 1), &c),
+                MatOp::new(self.a_type, &a),
+                MatOp::new(MatType::General(m, 1), &b),
+                ConeList {
+                    blocks: &self.blocks,
+                    work: &mut cone_work,
+                    eps_zero: F::of(self.eps_zero),
+                    progress: &mut progress,
+                },
+                &mut work,
+            ))
+            .map(|_| ());
+        Bare {
+            verdict,
+            progress,
+            work: plain(work),
+            cone_work: plain(cone_work),
+        }
+    }
+
+    /// The watched run, with all that an ending carries.
+    pub fn solve(&self) -> Answer {
+        watch(self.sweep_limit);
+        log::listen();
+        let mut run = self.run::<Seen>();
+        let line = log::heard().unwrap_or_default();
+        let seen = sight();
+
+        let ending = match run.verdict {
+            Ok(()) => Ending::Converged(criteria(&line, "pri_dual_gap")),
+            Err(SolverError::ExcessIter) if line.contains("pri_dual_gap") => {
+                Ending::ExcessIter(criteria(&line, "pri_dual_gap"))
+            }
+            Err(SolverError::ExcessIter) => {
+                Ending::ExcessIterUnscaled(criteria(&line, "unbdd_infeas"))
+            }
+            Err(SolverError::Unbounded) => {
+                Ending::Unbounded(criteria::<2>(&line, "unbdd_infeas")[0])
+            }
+            Err(SolverError::Infeasible) => {
+                Ending::Infeasible(criteria::<2>(&line, "unbdd_infeas")[1])
+            }
+            Err(SolverError::ConeFailure) => {
+                // The rule clears both buffers; the original leaves them where it stood.
+                run.work.fill(0.0);
+                run.cone_work.fill(0.0);
+                Ending::ConeFailure(run.progress.failed.expect("a failed block"))
+            }
+            Err(e) => panic!("the problem doesn't fit: {e}"),
+        };
+        Answer {
+            ending,
+            k: run.progress.steps,
+            q: seen.rotations,
+            work: run.work,
+            cone_work: run.cone_work,
+            other_zeros: seen.other_zeros,
+        }
+    }
+}
+
+/// The criteria of a line such as "0: pri_dual_gap 3ff0... 0000... 0000...".
+fn criteria<const N: usize>(line: &str, name: &str) -> [f64; N] {
+    let (_, tail) = line.split_once(name).expect("the criteria's line");
+    let mut values = tail.split_whitespace();
+    let all = std::array::from_fn(|_| {
+        let hex = values.next().expect("a criterion");
+        f64::from_bits(u64::from_str_radix(hex, 16).expect("a pattern"))
+    });
+    assert!(values.next().is_none());
+    all
+}
+
+impl Ending {
+    pub fn name(&self) -> &'static str {
+        match self {
+            Ending::Converged(_) => "Converged",
+            Ending::ExcessIter(_) | Ending::ExcessIterUnscaled(_) => "ExcessIter",
+            Ending::Unbounded(_) => "Unbounded",
+            Ending::Infeasible(_) => "Infeasible",
+            Ending::ConeFailure(_) => "ConeFailure",
+        }
+    }
+
+    /// The criteria carried, in order; none for a failed block.
+    pub fn criteria(&self) -> &[f64] {
+        match self {
+            Ending::Converged(c) | Ending::ExcessIter(c) => c,
+            Ending::ExcessIterUnscaled(c) => c,
+            Ending::Unbounded(c) | Ending::Infeasible(c) => std::slice::from_ref(c),
+            Ending::ConeFailure(_) => &[],
+        }
+    }
+}

@@ -1,0 +1,119 @@
+-- The owner's demands, in words over the rules. `proofs/Demands.antt` proves them.
+use Prim.Native.Nat.{ℕ, zero, suc, _+_, _-_, _*_, _≤_, _<_}
+use mathlib.Core.Path.{_≡_}
+use mathlib.Core.Logic.{_↔_}
+use mathlib.Core.Bool.{Bool, true, false, _&&_, _||_}
+use mathlib.Core.List.{List, [], _∷_}
+use lib.Ieee.{Float, lt, le}
+use lib.ListN.{length, take, drop}
+use Rattle.rules.specs.declared.Answer.{Answer}
+use Rattle.rules.specs.declared.Cone.{Cone}
+use Rattle.rules.specs.declared.Cone.the-variants.{Zero, RPos, SOC, RotSOC, PSD}
+use Rattle.rules.specs.declared.Ending.{Ending}
+use Rattle.rules.specs.declared.Ending.the-variants.{Converged}
+use Rattle.rules.specs.Product.{Failure, none, coneWork}
+use Rattle.rules.specs.Problem.{Problem, embed, blocks, workLength}
+use Rattle.rules.specs.Step.{State}
+use Rattle.rules.specs.Criteria.{Criteria, conv, inf?, tauOf}
+use Rattle.rules.specs.Prepare.{prepared, preparedNorms}
+use Rattle.rules.specs.Run.{Turn, turn, Verdict, goesOn, ends, verdict, allowance, Ended, run, Left}
+use Rattle.rules.specs.Refusals.{badParam, tooLarge, invalidOp, badCone, notFinite, workShortage, numberOf, solved, turnedAway}
+
+-- ---- demand 1
+
+-- the facts of the table, by number
+abbrev pub fact : Problem → ℕ → ℕ → ℕ → Bool
+fact p work cone zero = false
+fact p work cone (suc zero) = badParam (p .par)
+fact p work cone (suc (suc zero)) = tooLarge p
+fact p work cone (suc (suc (suc zero))) = invalidOp p
+fact p work cone (suc (suc (suc (suc zero)))) = badCone p
+fact p work cone (suc (suc (suc (suc (suc zero))))) = notFinite p
+fact p work cone (suc (suc (suc (suc (suc (suc zero)))))) = workShortage p work cone
+fact p work cone (suc (suc (suc (suc (suc (suc (suc i))))))) = false
+
+-- fact i holds, and none before it
+pub record FirstToHold (p : Problem) (work cone i : ℕ) : Type 0 where
+  pub holds : fact p work cone i ≡ true
+  pub none-before : (j : ℕ) → j < i → fact p work cone j ≡ false
+
+-- "A refusal has its number, is given exactly when its fact is the first in document 01 to hold, and changes no buffer."
+pub record TurnedAwayExactly (p : Problem) (work cone : List Float) : Type 0 where
+  pub exactly : (i : ℕ) → 1 ≤ i → (numberOf (solved p work cone .answer .ending) ≡ i) ↔ FirstToHold p (length work) (length cone) i
+  pub changes-nothing : (i : ℕ) → FirstToHold p (length work) (length cone) i → solved p work cone ≡ turnedAway (solved p work cone .answer .ending) work cone
+
+-- ---- demand 3, for the problem as the run reads it: "Against 01's step rules written without stopping"
+
+-- the state after k steps, and the k-th step, from 1
+unfoldable pub stateAfter : Problem → ℕ → State
+stateAfter p zero = prepared p
+stateAfter p (suc k) = turn p (preparedNorms p) (stateAfter p k) .state
+
+unfoldable pub step : Problem → ℕ → Turn
+step p k = turn p (preparedNorms p) (stateAfter p (k - 1))
+
+abbrev pub verdictAt : Problem → ℕ → Verdict
+verdictAt p k = verdict (p .par) k (step p k .failure) (step p k .criteria)
+
+unfoldable pub rotationsUpTo : Problem → ℕ → ℕ
+rotationsUpTo p zero = 0
+rotationsUpTo p (suc k) = rotationsUpTo p k + step p (suc k) .rotations
+
+-- "k is the first step where a cone fails, an ending test holds or the allowance is met, never above max(max_iter, 1)."
+pub record EndsFirst (p : Problem) (e : Ended) : Type 0 where
+  pub at-least-one : 1 ≤ e .steps
+  pub at-most : e .steps ≤ allowance (p .par)
+  pub ends-there : verdictAt p (e .steps) ≡ ends (e .ending)
+  pub not-before : (k : ℕ) → 1 ≤ k → k < e .steps → verdictAt p k ≡ goesOn
+  pub state-there : e .state ≡ stateAfter p (e .steps)
+  -- "q counts the rotations of those k steps"
+  pub counts : e .rotations ≡ rotationsUpTo p (e .steps)
+
+-- a cone fails, an ending test holds, or the allowance is met
+abbrev pub endingTest : Problem → Criteria → Bool
+endingTest p (conv pri dual gap) = le pri (p .par .«eps_acc») && le dual (p .par .«eps_acc») && le gap (p .par .«eps_acc»)
+endingTest p (inf? unbdd infeas) = le unbdd (p .par .«eps_inf») || le infeas (p .par .«eps_inf»)
+
+pub record GoesOnExactly (p : Problem) (k : ℕ) (failure : Failure) (criteria : Criteria) : Type 0 where
+  pub exactly : (verdict (p .par) k failure criteria ≡ goesOn) ↔ ((failure ≡ none) × (endingTest p criteria ≡ false) × (k < allowance (p .par)))
+
+-- "Converged is answered exactly when at step k no cone failed, tau > eps_zero and all three criteria are at most eps_acc."
+pub record ConvergedTest (p : Problem) (t : Turn) (pri dual gap : Float) : Type 0 where
+  pub no-cone-failed : t .failure ≡ none
+  pub tau-above : lt (p .par .«eps_zero») (tauOf (embed p) (t .state .x)) ≡ true
+  pub criteria-are : t .criteria ≡ conv pri dual gap
+  pub primal-small : le pri (p .par .«eps_acc») ≡ true
+  pub dual-small : le dual (p .par .«eps_acc») ≡ true
+  pub gap-small : le gap (p .par .«eps_acc») ≡ true
+
+pub record ConvergedExactly (p : Problem) (e : Ended) : Type 0 where
+  pub exactly : (pri dual gap : Float) → (e .ending ≡ Converged pri dual gap) ↔ ConvergedTest p (step p (e .steps)) pri dual gap
+
+-- d(d−1) over semidefinite blocks of order d
+abbrev pub pairsTwice : Cone → ℕ
+pairsTwice (Zero size) = 0
+pairsTwice (RPos size) = 0
+pairsTwice (SOC size) = 0
+pairsTwice (RotSOC size) = 0
+pairsTwice (PSD order) = order * (order - 1)
+
+unfoldable pub allPairsTwice : List Cone → ℕ
+allPairsTwice [] = 0
+allPairsTwice (b ∷ bs) = pairsTwice b + allPairsTwice bs
+
+-- "at most k × sweep limit × the sum of d(d−1) over semidefinite blocks of order d"
+abbrev pub RotationsBounded : Problem → Ended → Type 0
+RotationsBounded p e = e .rotations ≤ e .steps * (p .par .«sweep_limit» * allPairsTwice (blocks p))
+
+-- "What the buffers held before changes none of it": two pairs of buffers, long enough for the problem
+pub record OldContentsChangeNothing (p : Problem) (work cone work' cone' : List Float) : Type 0 where
+  pub answer : solved p work cone .answer ≡ solved p work' cone' .answer
+  pub work-required : take (workLength (p .m) (p .n)) (solved p work cone .work) ≡ take (workLength (p .m) (p .n)) (solved p work' cone' .work)
+  pub cone-required : take (coneWork (blocks p)) (solved p work cone .cone) ≡ take (coneWork (blocks p)) (solved p work' cone' .cone)
+
+-- "places beyond it are never changed": of both buffers, with any contents and on refusal too
+pub record PlacesBeyondKept (p : Problem) (work cone : List Float) : Type 0 where
+  pub work-length : length (solved p work cone .work) ≡ length work
+  pub cone-length : length (solved p work cone .cone) ≡ length cone
+  pub work-beyond : drop (workLength (p .m) (p .n)) (solved p work cone .work) ≡ drop (workLength (p .m) (p .n)) work
+  pub cone-beyond : drop (coneWork (blocks p)) (solved p work cone .cone) ≡ drop (coneWork (blocks p)) cone

@@ -1,0 +1,77 @@
+-- Document 01, "What the hub hands over".
+use Prim.Native.Nat.{ℕ, _+_, _*_}
+use mathlib.Core.Bool.{cond}
+use mathlib.Core.List.{List}
+use lib.Ieee.{Float, eq}
+use Rattle.rules.specs.declared.MatType.{MatType}
+use Rattle.rules.specs.declared.MatType.the-variants.{General, SymPack}
+use Rattle.rules.specs.declared.Storage.{Storage}
+use Rattle.rules.specs.declared.Storage.the-variants.{Dense, Packed}
+use Rattle.rules.specs.declared.Cone.{Cone}
+use Rattle.rules.specs.declared.SolverParam.{SolverParam}
+use Rattle.rules.specs.Arithmetic.{+0}
+use Rattle.rules.specs.Blocks.{blocksOf}
+
+-- "A problem is c (n numbers), A (m by n, ..), b (m numbers), a cone list and parameters"
+pub record Problem : Type 0 where
+  pub m : ℕ
+  pub n : ℕ
+  pub storage : Storage
+  pub c : List Float
+  pub a : List Float
+  pub b : List Float
+  pub words : List ℕ
+  pub par : SolverParam
+
+abbrev pub matrixOf : Storage → ℕ → ℕ → MatType
+matrixOf Dense m n = General (record { 0 = m }) (record { 0 = n })
+matrixOf Packed m n = SymPack (record { 0 = m })
+
+-- "c and b act as dense matrices of one column"
+abbrev pub column : ℕ → MatType
+column rows = General (record { 0 = rows }) (record { 0 = 1 })
+
+abbrev pub matrix : Problem → MatType
+matrix p = matrixOf (p .storage) (p .m) (p .n)
+
+-- SelfDualEmbed of the Rust: the three operators, with their sizes
+pub record Embed : Type 0 where
+  pub m : ℕ
+  pub n : ℕ
+  pub t : MatType
+  pub c : List Float
+  pub a : List Float
+  pub b : List Float
+
+abbrev pub embed : Problem → Embed
+embed p = record { m = p .m; n = p .n; t = matrix p; c = p .c; a = p .a; b = p .b }
+
+abbrev pub blocks : Problem → List Cone
+blocks p = blocksOf (p .words)
+
+-- "An eps_zero of −0 is read as +0."
+unfoldable pub epsZero : SolverParam → Float
+unfolding eq
+epsZero par = cond (eq (par .«eps_zero») +0) +0 (par .«eps_zero»)
+
+unfoldable pub asRead : SolverParam → SolverParam
+unfolding epsZero
+asRead par =
+    record {
+      «max_iter» = par .«max_iter»;
+      «eps_acc» = par .«eps_acc»;
+      «eps_inf» = par .«eps_inf»;
+      «eps_zero» = epsZero par;
+      «sweep_limit» = par .«sweep_limit»;
+    }
+
+-- the lengths of x (n, dual m, primal m, tau) and of y (n, m, 1)
+abbrev pub lengthX : ℕ → ℕ → ℕ
+lengthX m n = n + m + m + 1
+
+abbrev pub lengthY : ℕ → ℕ → ℕ
+lengthY m n = n + m + 1
+
+-- "Work: at least 6n + 10m + 6 places."
+abbrev pub workLength : ℕ → ℕ → ℕ
+workLength m n = 6 * n + 10 * m + 6

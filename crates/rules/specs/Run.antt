@@ -1,0 +1,143 @@
+-- Document 01, "How a run ends".
+use Prim.Native.Nat.{ℕ, zero, suc, _+_, _-_, max}
+use mathlib.Core.Bool.{Bool, true, false, cond, _&&_}
+use mathlib.Core.List.{List, [], _∷_, _++_}
+use lib.Dec.{leb}
+use lib.Ieee.{Float, le}
+use lib.ListN.{take, drop}
+use Rattle.rules.specs.declared.Answer.{Answer}
+use Rattle.rules.specs.declared.Ending.{Ending}
+use Rattle.rules.specs.declared.Ending.the-variants.{BadParam, TooLarge, InvalidOp, BadCone, NotFinite, WorkShortage, Converged, ExcessIter, ExcessIterUnscaled, Unbounded, Infeasible, ConeFailure}
+use Rattle.rules.specs.declared.SolverParam.{SolverParam}
+use Rattle.rules.specs.Helpers.{reciprocal}
+use Rattle.rules.specs.Vectors.{scaled}
+use Rattle.rules.specs.Product.{Failure, none, block, coneWork}
+use Rattle.rules.specs.Problem.{Problem, embed, blocks, workLength}
+use Rattle.rules.specs.Step.{State, updated, xX, xY}
+use Rattle.rules.specs.Criteria.{Criteria, conv, inf?, judged, tauOf}
+use Rattle.rules.specs.Prepare.{Norms, norms, prepared, preparedNorms, zeros}
+
+-- ---- one whole step, without stopping
+
+pub record Turn : Type 0 where
+  pub state : State
+  pub rotations : ℕ
+  pub failure : Failure
+  pub criteria : Criteria
+
+unfoldable pub turn : Problem → Norms → State → Turn
+unfolding updated judged
+turn p ns s =
+    let u = updated p s in
+    let v = u .state in
+    let j = judged (embed p) (p .par .«eps_zero») ns (v .x) (v .rx) in
+    let after : State =
+    record { x = v .x; y = v .y; dpTau = v .dpTau; dpSigma = v .dpSigma; rx = j .rx; tx = v .tx; cone = v .cone } in
+    record { state = after; rotations = u .rotations; failure = u .failure; criteria = j .criteria }
+
+-- ---- whether it ends
+
+-- "The allowance is met at step max(max_iter, 1)."
+abbrev pub allowance : SolverParam → ℕ
+allowance par = max (par .«max_iter») 1
+
+pub data Verdict : Type 0 where
+  goesOn : Verdict
+  ends : Ending → Verdict
+
+-- "At one step: ConeFailure first, then Converged or ExcessIter if tau > eps_zero; otherwise Unbounded, Infeasible, ExcessIter."
+unfoldable pub verdict : SolverParam → ℕ → Failure → Criteria → Verdict
+unfolding le
+verdict par k (block b) criteria = ends (ConeFailure b)
+verdict par k none (conv pri dual gap) =
+    cond (le pri (par .«eps_acc») && le dual (par .«eps_acc») && le gap (par .«eps_acc»)) (ends (Converged pri dual gap))
+    (cond (leb (allowance par) k) (ends (ExcessIter pri dual gap)) goesOn)
+verdict par k none (inf? unbdd infeas) =
+    cond (le unbdd (par .«eps_inf»)) (ends (Unbounded unbdd))
+    (cond (le infeas (par .«eps_inf»)) (ends (Infeasible infeas))
+    (cond (leb (allowance par) k) (ends (ExcessIterUnscaled unbdd infeas)) goesOn))
+
+-- ---- the run
+
+pub record Ended : Type 0 where
+  pub ending : Ending
+  pub steps : ℕ
+  pub rotations : ℕ
+  pub state : State
+
+abbrev pub finished : Verdict → Ended → ℕ → ℕ → State → Ended
+finished goesOn rest k q s = rest
+finished (ends e) rest k q s = record { ending = e; steps = k; rotations = q; state = s }
+
+-- Steps from the k-th on, with that many of the allowance left; q rotations were made before. The allowance is met before it runs out.
+unfoldable pub runFrom : ℕ → Problem → Norms → ℕ → ℕ → State → Ended
+unfolding turn verdict
+runFrom zero p ns k q s = record { ending = ConeFailure 0; steps = k; rotations = q; state = s }
+runFrom (suc left) p ns k q s =
+    let t = turn p ns s in
+    let rest = runFrom left p ns (k + 1) (q + t .rotations) (t .state) in
+    finished (verdict (p .par) k (t .failure) (t .criteria)) rest k (q + t .rotations) (t .state)
+
+-- ---- x and y in work
+
+abbrev pub isScaled : Ending → Bool
+isScaled BadParam = false
+isScaled TooLarge = false
+isScaled InvalidOp = false
+isScaled BadCone = false
+isScaled NotFinite = false
+isScaled WorkShortage = false
+isScaled (Converged a b c) = true
+isScaled (ExcessIter a b c) = true
+isScaled (ExcessIterUnscaled a b) = false
+isScaled (Unbounded a) = false
+isScaled (Infeasible a) = false
+isScaled (ConeFailure b) = false
+
+abbrev pub isConeFailure : Ending → Bool
+isConeFailure BadParam = false
+isConeFailure TooLarge = false
+isConeFailure InvalidOp = false
+isConeFailure BadCone = false
+isConeFailure NotFinite = false
+isConeFailure WorkShortage = false
+isConeFailure (Converged a b c) = false
+isConeFailure (ExcessIter a b c) = false
+isConeFailure (ExcessIterUnscaled a b) = false
+isConeFailure (Unbounded a) = false
+isConeFailure (Infeasible a) = false
+isConeFailure (ConeFailure b) = true
+
+-- "x and y in work: times 1/tau" where tau is above eps_zero
+unfoldable pub finalX : Problem → Ending → List Float → List Float
+unfolding scaled reciprocal
+finalX p e x =
+    let by = reciprocal (tauOf (embed p) x) in
+    cond (isScaled e) (scaled by (xX (embed p) x) ++ scaled by (xY (embed p) x) ++ drop (p .n + p .m) x) x
+
+-- all of work
+abbrev pub laidOut : Problem → Ending → State → List Float
+laidOut p e s = finalX p e (s .x) ++ s .y ++ s .dpTau ++ s .dpSigma ++ s .rx ++ s .tx
+
+-- "On acceptance the required part of both buffers becomes +0": the run starts from that, whatever the buffers held.
+unfoldable pub run : Problem → Ended
+unfolding runFrom prepared norms
+run p = runFrom (allowance (p .par)) p (preparedNorms p) 1 0 (prepared p)
+
+-- What an accepted run leaves. "ConeFailure: required part of both buffers +0"; "places beyond it are never changed".
+pub record Left : Type 0 where
+  pub answer : Answer
+  pub work : List Float
+  pub cone : List Float
+
+unfoldable pub leftBy : Problem → List Float → List Float → Ended → Left
+unfolding finalX coneWork
+leftBy p work cone e =
+    let required = workLength (p .m) (p .n) in
+    let needed = coneWork (blocks p) in
+    let laid = laidOut p (e .ending) (e .state) in
+    record {
+      answer = record { ending = e .ending; steps = e .steps; rotations = e .rotations };
+      work = cond (isConeFailure (e .ending)) (zeros required) laid ++ drop required work;
+      cone = cond (isConeFailure (e .ending)) (zeros needed) (e .state .cone) ++ drop needed cone;
+    }

@@ -18,7 +18,7 @@ ghost use mathlib.Core.Bool.{true};
 ghost use lib.ListN.{length};
 ghost use Rattle.rules.specs.Outcome.{Outcome};
 ghost use Rattle.rules.specs.Blocks.{blocksOf};
-ghost use Rattle.rules.specs.Product.{projAll, grouped, groupBlock, groupAll, blocksWithin, sumsFit, listFits, lengthsFit, productFits, ProductOutcome};
+ghost use Rattle.rules.specs.Product.{projAll, grouped, isGrouped, groupBlock, groupAll, blocksWithin, sumsFit, listFits, lengthsFit, productFits, ProductOutcome};
 
 // Whether no block is above the limit.
 fn blocks_within(words: &[u16]) -> bool
@@ -76,7 +76,10 @@ fn proj_all(par: SolverParam, dual: bool, words: &[u16], x: &mut [f64], work: &m
                     Projection::Done(made) => {
                         rotations = rotations + made;
                     }
-                    Projection::Failed(made) => return Product::Failed(number, rotations + made),
+                    Projection::Failed(made) => {
+                        let all = rotations + made;
+                        return Product::Failed(number, all);
+                    }
                     // every block of a list that fits does
                     Projection::No => return Product::No,
                 }
@@ -120,16 +123,24 @@ fn group(t: &mut [f64])
     }
 }
 
-// The blocks of second-order, rotated and semidefinite cones are grouped.
+// Whether a block's places go together: those of second-order, rotated and semidefinite cones.
+fn is_grouped(cone: Cone) -> bool
+    ensures { λ r. ⌜ r ≡ isGrouped cone ⌝ }
+{
+    match cone {
+        Cone::Zero(_) => false,
+        Cone::RPos(_) => false,
+        Cone::SOC(_) => true,
+        Cone::RotSOC(_) => true,
+        Cone::PSD(_) => true,
+    }
+}
+
 fn group_block(cone: Cone, t: &mut [f64])
     ensures { λ _. ⌜ now (t .exit) ≡ groupBlock cone (now (t .entry)) ⌝ }
 {
-    match cone {
-        Cone::Zero(_) => {}
-        Cone::RPos(_) => {}
-        Cone::SOC(_) => group(t),
-        Cone::RotSOC(_) => group(t),
-        Cone::PSD(_) => group(t),
+    if is_grouped(cone) {
+        group(t);
     }
 }
 

@@ -61,12 +61,16 @@ unfoldable pub grouped : List Float → List Float
 unfolding each smallestTo
 grouped xs = each (λ k v. smallestTo (length xs) (at xs 0) xs) xs
 
+-- "kinds 2, 3, 4"
+abbrev pub isGrouped : Cone → Bool
+isGrouped (Zero size) = false
+isGrouped (RPos size) = false
+isGrouped (SOC size) = true
+isGrouped (RotSOC size) = true
+isGrouped (PSD order) = true
+
 abbrev pub groupBlock : Cone → List Float → List Float
-groupBlock (Zero size) xs = xs
-groupBlock (RPos size) xs = xs
-groupBlock (SOC size) xs = grouped xs
-groupBlock (RotSOC size) xs = grouped xs
-groupBlock (PSD order) xs = grouped xs
+groupBlock b xs = cond (isGrouped b) (grouped xs) xs
 
 unfoldable pub groupAll : List Cone → List Float → List Float
 unfolding grouped

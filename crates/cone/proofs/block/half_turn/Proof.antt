@@ -1,4 +1,6 @@
 -- `cone::block::half_turn` meets its contract.
+use native.Mathlib.Omega.{arith}
+use lib.ListN.{length-set}
 use borrow.Author.Needs.{needs}
 use Rattle.rules.proofs.Projections.{turn-none, turn-more, root-two-is}
 use Rattle.cone.proofs.block.half_turn.Statement.{statement}
@@ -14,7 +16,7 @@ slice-write-x : tie.Need-slice-write-x
 slice-write-x c = search needs
 
 slice-write-x-2 : tie.Need-slice-write-x-2
-slice-write-x-2 c = search needs
+slice-write-x-2 c = simp length-set (omega arith)
 
 same-length : tie.Need-same-length
 same-length c = search needs

@@ -93,8 +93,8 @@ add-rotations c =
 enum-known-made-2 : tie.Need-enum-known-made-2 Inv-loop μ-loop
 enum-known-made-2 c = search needs
 
-add-t28 : tie.Need-add-t28 Inv-loop μ-loop
-add-t28 c =
+add-all : tie.Need-add-all Inv-loop μ-loop
+add-all c =
     let p = c .before .before .before .before .before .before .before .before .before .before in
     omega (arith, projecting-counts-failed (p .before .before .before .before .before .before .before .loop .inv .0) (is-taken p) _ (is-block p) _ (is-long p) (c .before .before .before .before .before .before .before .proj .ensures) _ (c .before .made2 .given .1))
 
@@ -173,7 +173,7 @@ proj-all-spec =
     enum-known-made
     add-rotations
     enum-known-made-2
-    add-t28
+    add-all
     same-length-3
     same-length-4
     returns-2

@@ -14,8 +14,10 @@ pub mod Lengths
 pub mod Accepted
 pub mod OldContents
 pub mod Demands
-pub mod Projections
 pub mod Outcome
 pub mod Vectors
 pub mod Matrices
+pub mod Blocks
+pub mod Projections
+pub mod ConeProduct
 pub mod WorkedByHand

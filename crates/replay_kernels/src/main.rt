@@ -12,39 +12,37 @@ use operations::Found;
 // One more than the largest number of an operation.
 const OPERATIONS: usize = 24;
 
-// What became of a record, with the number of its operation.
-enum Replayed {
-    Agrees(usize),
-    Differs(usize),
-    Unreadable,
-}
-
-fn replay_one() -> Replayed {
+// Reads a record and replays it: whether there was a whole one of a known operation.
+fn replay_one(agree: &mut [u64; OPERATIONS], differ: &mut [u64; OPERATIONS]) -> bool {
     let mut head = [0u8; 16];
-    let got = io::read_full(STDIN_FILENO, &mut head);
-    if got != 16 {
-        return Replayed::Unreadable;
+    if !read(&mut head, 16) {
+        return false;
     }
     let operation = patterns::word_at(&head, 0);
     let words = patterns::word_at(&head, 8);
-    replay_rest(operation, words)
+    replay_rest(operation, words, agree, differ)
 }
 
-// Reads the rest of a record, which has so many words.
-fn replay_rest(operation: u64, words: u64) -> Replayed {
+// Goes on after the first two words of a record, the operation and how many words follow.
+fn replay_rest(
+    operation: u64,
+    words: u64,
+    agree: &mut [u64; OPERATIONS],
+    differ: &mut [u64; OPERATIONS],
+) -> bool {
     if words > 1024 {
-        return Replayed::Unreadable;
+        return false;
     }
     let length = words as usize * 8;
     let mut bytes = [0u8; 8192];
     if !read(&mut bytes, length) {
-        return Replayed::Unreadable;
+        return false;
     }
     let found = operations::replay(operation, &bytes[0..length]);
     match found {
-        Found::Agrees => Replayed::Agrees(operation as usize),
-        Found::Differs => Replayed::Differs(operation as usize),
-        Found::Unknown => Replayed::Unreadable,
+        Found::Agrees => count(agree, operation as usize),
+        Found::Differs => count(differ, operation as usize),
+        Found::Unknown => false,
     }
 }
 
@@ -56,27 +54,23 @@ fn read(buffer: &mut [u8], length: usize) -> bool {
     io::read_full(STDIN_FILENO, &mut buffer[0..length]) == length
 }
 
-// Replays so many records, or up to one that can't be read: how many were.
-fn replay(records: u64, agree: &mut [u64; OPERATIONS], differ: &mut [u64; OPERATIONS]) -> u64 {
-    let mut replayed: u64 = 0;
+// Replays so many records, or up to one that can't be read: whether there was none such.
+fn replay(records: u64, agree: &mut [u64; OPERATIONS], differ: &mut [u64; OPERATIONS]) -> bool {
     for _ in 0..records {
-        let found = replay_one();
-        match found {
-            Replayed::Agrees(operation) => count(agree, operation),
-            Replayed::Differs(operation) => count(differ, operation),
-            Replayed::Unreadable => {
-                break;
-            }
+        if !replay_one(agree, differ) {
+            return false;
         }
-        replayed = std::num::wrapping_add_u64(replayed, 1);
     }
-    replayed
+    true
 }
 
-fn count(tally: &mut [u64; OPERATIONS], operation: usize) {
+// One more for an operation, if there can be one of this number.
+fn count(tally: &mut [u64; OPERATIONS], operation: usize) -> bool {
     if operation < OPERATIONS {
         tally[operation] = std::num::wrapping_add_u64(tally[operation], 1);
+        return true;
     }
+    false
 }
 
 fn total(tally: &[u64; OPERATIONS]) -> u64 {
@@ -111,9 +105,9 @@ fn write_name(operation: usize) -> bool {
     }
 }
 
-fn write_counts(agree: u64, differ: u64) {
+fn write_counts(records: u64, agree: u64, differ: u64) {
     io::write_all(STDOUT_FILENO, b": ");
-    io::print_decimal(STDOUT_FILENO, std::num::wrapping_add_u64(agree, differ));
+    io::print_decimal(STDOUT_FILENO, records);
     io::write_all(STDOUT_FILENO, b" records, ");
     io::print_decimal(STDOUT_FILENO, agree);
     io::write_all(STDOUT_FILENO, b" agree, ");
@@ -124,23 +118,24 @@ fn write_counts(agree: u64, differ: u64) {
 fn write_operations(agree: &[u64; OPERATIONS], differ: &[u64; OPERATIONS]) {
     for operation in 0..OPERATIONS {
         if write_name(operation) {
-            write_counts(agree[operation], differ[operation]);
+            let records = std::num::wrapping_add_u64(agree[operation], differ[operation]);
+            write_counts(records, agree[operation], differ[operation]);
         }
     }
 }
 
-// A record that can't be read is a difference too.
-fn write_total(records: u64, replayed: u64, agree: u64, differ: u64) {
-    let mut differ_in_all = differ;
-    if replayed != records {
-        io::write_all(
-            STDOUT_FILENO,
-            b"stopped: no whole record of a known operation follows\n",
-        );
-        differ_in_all = std::num::wrapping_add_u64(differ, 1);
-    }
+fn write_total(records: u64, agree: u64, differ: u64) {
     io::write_all(STDOUT_FILENO, b"kernels");
-    write_counts(agree, differ_in_all);
+    write_counts(records, agree, differ);
+}
+
+// A record that can't be read is a difference too.
+fn write_stopped_total(records: u64, agree: u64, differ: u64) {
+    io::write_all(
+        STDOUT_FILENO,
+        b"stopped: no whole record of a known operation follows\n",
+    );
+    write_total(records, agree, std::num::wrapping_add_u64(differ, 1));
 }
 
 fn main() {
@@ -149,7 +144,11 @@ fn main() {
     let records = patterns::word_at(&head, 0);
     let mut agree = [0u64; OPERATIONS];
     let mut differ = [0u64; OPERATIONS];
-    let replayed = replay(records, &mut agree, &mut differ);
+    let whole = replay(records, &mut agree, &mut differ);
     write_operations(&agree, &differ);
-    write_total(records, replayed, total(&agree), total(&differ));
+    if whole {
+        write_total(records, total(&agree), total(&differ));
+    } else {
+        write_stopped_total(records, total(&agree), total(&differ));
+    }
 }

@@ -38,7 +38,8 @@ fn vector(operation: u64, record: &[u8]) -> bool {
         3 | 5 => scale_or_adds(operation, record),
         4 => add(record),
         6 => abssum(record),
-        _ => transform_di(record),
+        7 => transform_di(record),
+        _ => false,
     }
 }
 
@@ -163,7 +164,8 @@ fn operator(operation: u64, record: &[u8], t: MatType, rows: usize, cols: usize)
         10 => routines::agrees(Routine::Op(t, alpha, beta), record, 5, cols, rows),
         11 => routines::agrees(Routine::TransOp(t, alpha, beta), record, 5, rows, cols),
         12 => routines::agrees(Routine::AbsaddCols(t), record, 3, 0, cols),
-        _ => routines::agrees(Routine::AbsaddRows(t), record, 3, 0, rows),
+        13 => routines::agrees(Routine::AbsaddRows(t), record, 3, 0, rows),
+        _ => false,
     }
 }
 
@@ -175,7 +177,8 @@ fn helper(operation: u64, record: &[u8]) -> bool {
         20 => is_last(record, 2, float::larger(a, b)),
         21 => is_last(record, 2, float::smaller(a, b)),
         22 => is_last(record, 1, float::magnitude(a)),
-        _ => is_last(record, 1, float::reciprocal(a)),
+        23 => is_last(record, 1, float::reciprocal(a)),
+        _ => false,
     }
 }
 

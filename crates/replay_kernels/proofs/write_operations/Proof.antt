@@ -16,6 +16,21 @@ loop-holds c = search needs
 write-name-requires : tie.Need-write-name-requires Inv-loop μ-loop
 write-name-requires c κs = search needs
 
+mul-wrapping-add-u64 : tie.Need-mul-wrapping-add-u64 Inv-loop μ-loop
+mul-wrapping-add-u64 c = search needs
+
+element-copy-out-wrapping-add-u64 : tie.Need-element-copy-out-wrapping-add-u64 Inv-loop μ-loop
+element-copy-out-wrapping-add-u64 c = search needs
+
+mul-wrapping-add-u64-2 : tie.Need-mul-wrapping-add-u64-2 Inv-loop μ-loop
+mul-wrapping-add-u64-2 c = search needs
+
+element-copy-out-wrapping-add-u64-2 : tie.Need-element-copy-out-wrapping-add-u64-2 Inv-loop μ-loop
+element-copy-out-wrapping-add-u64-2 c = search needs
+
+wrapping-add-u64-requires : tie.Need-wrapping-add-u64-requires Inv-loop μ-loop
+wrapping-add-u64-requires c κs = search needs
+
 mul-write-counts : tie.Need-mul-write-counts Inv-loop μ-loop
 mul-write-counts c = search needs
 
@@ -51,6 +66,11 @@ write-operations-spec =
     μ-loop
     loop-holds
     write-name-requires
+    mul-wrapping-add-u64
+    element-copy-out-wrapping-add-u64
+    mul-wrapping-add-u64-2
+    element-copy-out-wrapping-add-u64-2
+    wrapping-add-u64-requires
     mul-write-counts
     element-copy-out-write-counts
     mul-write-counts-2

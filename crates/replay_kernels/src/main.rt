@@ -54,14 +54,15 @@ fn read(buffer: &mut [u8], length: usize) -> bool {
     io::read_full(STDIN_FILENO, &mut buffer[0..length]) == length
 }
 
-// Replays so many records, or up to one that can't be read: whether there was none such.
+// Replays so many records, or up to one that can't be: whether all were, and nothing follows.
 fn replay(records: u64, agree: &mut [u64; OPERATIONS], differ: &mut [u64; OPERATIONS]) -> bool {
     for _ in 0..records {
         if !replay_one(agree, differ) {
             return false;
         }
     }
-    true
+    let mut more = [0u8; 1];
+    !read(&mut more, 1)
 }
 
 // One more for an operation, if there can be one of this number.
@@ -129,18 +130,21 @@ fn write_total(records: u64, agree: u64, differ: u64) {
     write_counts(records, agree, differ);
 }
 
-// A record that can't be read is a difference too.
+// What stopped the run is a difference too.
 fn write_stopped_total(records: u64, agree: u64, differ: u64) {
     io::write_all(
         STDOUT_FILENO,
-        b"stopped: no whole record of a known operation follows\n",
+        b"stopped: a record is cut short, of no known operation, or one too many\n",
     );
     write_total(records, agree, std::num::wrapping_add_u64(differ, 1));
 }
 
 fn main() {
     let mut head = [0u8; 8];
-    io::read_full(STDIN_FILENO, &mut head);
+    if !read(&mut head, 8) {
+        io::write_all(STDOUT_FILENO, b"stopped: there is no list\n");
+        return;
+    }
     let records = patterns::word_at(&head, 0);
     let mut agree = [0u64; OPERATIONS];
     let mut differ = [0u64; OPERATIONS];

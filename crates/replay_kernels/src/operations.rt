@@ -31,10 +31,11 @@ fn told(agrees: bool) -> Found {
     }
 }
 
+// The operations on vectors.
 fn vector(operation: u64, record: &[u8]) -> bool {
     match operation {
         1 => norm(record),
-        2 => routines::agrees(Routine::Copy, record, 1, 0, record::size(record, 0)),
+        2 => copy(record),
         3 | 5 => scale_or_adds(operation, record),
         4 => add(record),
         6 => abssum(record),
@@ -53,6 +54,10 @@ fn norm(record: &[u8]) -> bool {
     }
     let x = record::numbers(record, 1, n);
     record::holds_one(record, n + 1, linalg::norm(&x[0..n]))
+}
+
+fn copy(record: &[u8]) -> bool {
+    routines::agrees(Routine::Copy, record, 1, 0, record::size(record, 0))
 }
 
 fn add(record: &[u8]) -> bool {
@@ -116,7 +121,8 @@ fn transform_sp(record: &[u8]) -> bool {
     routines::agrees(routine, record, 3, n, n)
 }
 
-// The operations whose sizes are a flag, rows and columns.
+// The operations whose sizes are a flag, rows and columns. For 8 the flag says whether the matrix is
+// turned over, for the others whether it is packed.
 fn matrix(operation: u64, record: &[u8]) -> bool {
     let flag = record::word(record, 0);
     if flag > 1 {
@@ -158,15 +164,23 @@ fn transform_ge(record: &[u8], transpose: bool, rows: usize, cols: usize) -> boo
 }
 
 fn operator(operation: u64, record: &[u8], t: MatType, rows: usize, cols: usize) -> bool {
-    let alpha = record::number(record, 3);
-    let beta = record::number(record, 4);
     match operation {
-        10 => routines::agrees(Routine::Op(t, alpha, beta), record, 5, cols, rows),
-        11 => routines::agrees(Routine::TransOp(t, alpha, beta), record, 5, rows, cols),
+        10 => op(record, t, rows, cols),
+        11 => trans_op(record, t, rows, cols),
         12 => routines::agrees(Routine::AbsaddCols(t), record, 3, 0, cols),
         13 => routines::agrees(Routine::AbsaddRows(t), record, 3, 0, rows),
         _ => false,
     }
+}
+
+fn op(record: &[u8], t: MatType, rows: usize, cols: usize) -> bool {
+    let routine = Routine::Op(t, record::number(record, 3), record::number(record, 4));
+    routines::agrees(routine, record, 5, cols, rows)
+}
+
+fn trans_op(record: &[u8], t: MatType, rows: usize, cols: usize) -> bool {
+    let routine = Routine::TransOp(t, record::number(record, 3), record::number(record, 4));
+    routines::agrees(routine, record, 5, rows, cols)
 }
 
 // The operations on one or two numbers.

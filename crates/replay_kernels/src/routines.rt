@@ -19,7 +19,7 @@ pub enum Routine {
     AbsaddRows(MatType),
 }
 
-// Runs a routine. First is its matrix or, where it has none, its vector x; then second is empty.
+// Runs a routine. First is its matrix and second its x; without a matrix, first is its x.
 fn run(routine: Routine, first: &[f64], second: &[f64], y: &mut [f64]) -> bool {
     match routine {
         Routine::Copy => linalg::copy(first, y),
@@ -63,10 +63,10 @@ fn fits_and_not(routine: Routine, first: &[f64], second: &[f64], y: &mut [f64], 
     !run(routine, first, second, &mut y[0..longer])
 }
 
-// Replays a routine: whether it takes the record's numbers and answers as the list says, and after
-// that turns a y down that is one place too long and leaves it as it is. The numbers start at a
-// place of the record. The last are x, of the width, and y, of the height, with the answer; what
-// stands before these is the matrix, and the routine says whether it is as long as it should be.
+// Replays a routine: whether it takes the record's numbers and answers as the list says, and then
+// turns a y down that is one place too long, and leaves it as it is. The numbers start at a place of
+// the record: the matrix, or x where there is none; x, of the width; y, of the height; the answer.
+// The first of these is what the others leave of the record, and the routine says whether it fits.
 pub fn agrees(routine: Routine, record: &[u8], start: usize, width: usize, height: usize) -> bool
     requires { ⌜ start ≤ 5 ⌝ }
 {
@@ -97,6 +97,7 @@ pub fn agrees(routine: Routine, record: &[u8], start: usize, width: usize, heigh
     ) {
         return false;
     }
+    // Past the record's end stands +0, as in the place too many.
     let longer = height + 1;
     record::holds(record, words - height, &y[0..longer])
 }

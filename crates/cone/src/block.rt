@@ -6,14 +6,11 @@ use rules::LIMIT;
 use rules::Projection;
 use rules::SWEEPS;
 use rules::SolverParam;
-ghost use Prim.Native.Nat.{ℕ};
 ghost use mathlib.Core.Path.{_≡_};
-ghost use mathlib.Core.Bool.{_&&_};
-ghost use lib.Dec.{leb, eqb};
-ghost use lib.ListN.{length};
+ghost use lib.Dec.{leb};
 ghost use Rattle.rules.specs.Limits.{limit};
 ghost use Rattle.rules.specs.Blocks.{places};
-ghost use Rattle.rules.specs.Projections.{projZero, projRPos, projSOC, halfTurn, projRotSOC, projBlock, blockWork, sizesFit, blockFits, sweepsFit, BlockOutcome};
+ghost use Rattle.rules.specs.Projections.{projZero, projRPos, projSOC, halfTurn, projRotSOC, projBlock, sizesFit, blockFits, sweepsFit, BlockOutcome};
 
 // The dual is untouched, the primal is multiplied by 0.
 fn proj_zero(dual: bool, x: &mut [f64])
@@ -95,6 +92,7 @@ pub(crate) fn is_within(cone: Cone) -> bool
     }
 }
 
+// Whether the sweep limit is within its range.
 pub(crate) fn sweeps_fit(par: SolverParam) -> bool
     ensures { λ r. ⌜ r ≡ sweepsFit par ⌝ }
 {
@@ -104,6 +102,7 @@ pub(crate) fn sweeps_fit(par: SolverParam) -> bool
     par.sweep_limit <= SWEEPS
 }
 
+// Whether a block has that many places and finds enough cone work, and the sweep limit fits.
 fn block_fits(par: SolverParam, cone: Cone, size: usize, work: usize) -> bool
     ensures { λ r. ⌜ r ≡ sizesFit par cone size work ⌝ }
 {

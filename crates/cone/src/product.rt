@@ -12,10 +12,8 @@ use rules::Product;
 use rules::Projection;
 use rules::SolverParam;
 use rules::Word;
-ghost use Prim.Native.Nat.{ℕ, _<_};
 ghost use mathlib.Core.Path.{_≡_};
 ghost use mathlib.Core.Bool.{true};
-ghost use lib.ListN.{length};
 ghost use Rattle.rules.specs.Outcome.{Outcome};
 ghost use Rattle.rules.specs.Blocks.{blocksOf};
 ghost use Rattle.rules.specs.Product.{projAll, grouped, isGrouped, groupBlock, groupAll, blocksWithin, sumsFit, listFits, lengthsFit, productFits, ProductOutcome};
@@ -34,6 +32,7 @@ fn blocks_within(words: &[u16]) -> bool
     true
 }
 
+// Whether a list is good for that many places, with no block above the limit.
 fn list_fits(words: &[u16], len: usize) -> bool
     ensures { λ r. ⌜ r ≡ sumsFit (now (words .entry)) len ⌝ }
 {
@@ -43,6 +42,7 @@ fn list_fits(words: &[u16], len: usize) -> bool
     blocks_within(words)
 }
 
+// Whether the list, its places, cone work and the sweep limit fit.
 fn product_fits(par: SolverParam, words: &[u16], len: usize, work: usize) -> bool
     ensures { λ r. ⌜ r ≡ lengthsFit par (now (words .entry)) len work ⌝ }
 {
@@ -136,6 +136,7 @@ fn is_grouped(cone: Cone) -> bool
     }
 }
 
+// Groups a block, if its places go together.
 fn group_block(cone: Cone, t: &mut [f64])
     ensures { λ _. ⌜ now (t .exit) ≡ groupBlock cone (now (t .entry)) ⌝ }
 {

@@ -1,5 +1,6 @@
 -- Document 01 as definitions, in its order.
 pub mod Limits
+pub mod Parameters
 pub mod Outcome
 pub mod Helpers
 pub mod Root

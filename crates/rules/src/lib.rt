@@ -1,5 +1,7 @@
 // What is right. The rules stand in specs/, in document 01's order and words; this file declares
 // the types that the rules and the code share.
+ghost use mathlib.Core.Path.{_≡_};
+ghost use Rattle.rules.specs.Parameters.{defaults};
 
 // The most rows and the most columns of a matrix, which are the largest m and n.
 pub const LIMIT: usize = 256;
@@ -55,6 +57,27 @@ pub struct SolverParam {
     pub eps_inf: f64,
     pub eps_zero: f64,
     pub sweep_limit: u64,
+}
+
+impl SolverParam {
+    pub const EPS_ACC: f64 = 0.000001;
+
+    pub const EPS_INF: f64 = 0.000001;
+
+    pub const EPS_ZERO: f64 = 0.000000000001;
+
+    // The default tolerances, with the limits that every run must name.
+    pub fn new(max_iter: u64, sweep_limit: u64) -> SolverParam
+        ensures { λ r. ⌜ r ≡ defaults «max_iter» «sweep_limit» ⌝ }
+    {
+        SolverParam {
+            max_iter,
+            eps_acc: SolverParam::EPS_ACC,
+            eps_inf: SolverParam::EPS_INF,
+            eps_zero: SolverParam::EPS_ZERO,
+            sweep_limit,
+        }
+    }
 }
 
 // What projecting one block answers: the rotations that it took, or those after which its sweeps had

@@ -33,8 +33,10 @@ vectors-none n i j c s z stored =
       within = omega arith;
     }
 
-pub vectors-inside : {n k i j : ℕ} {c s : Float} {z z' : List Float} → VectorsTo n k i j c s z z' → IsPair n i j → k < n → n ≤ limit → (i * n + k < length z') × (j * n + k < length z') × (length z' ≤ limit * limit)
-vectors-inside {n} {k} {i} {j} r p h small = omega (arith, square-inside n k i h (omega arith), square-inside n k j h (p .inside), product-small n n small small)
+-- the entries that a turn reads, and the mirror image of one, are inside
+pub vectors-inside : {n k i j : ℕ} {c s : Float} {z z' : List Float} → VectorsTo n k i j c s z z' → IsPair n i j → k < n → n ≤ limit → (i * n + k < length z') × (j * n + k < length z') × (k * n + i < length z') × (length z' ≤ limit * limit)
+vectors-inside {n} {k} {i} {j} r p h small =
+    omega (arith, square-inside n k i h (omega arith), square-inside n k j h (p .inside), square-inside n i k (omega arith) h, product-small n n small small)
 
 module _ (n k i j : ℕ) (c s : Float) (z z' : List Float) (r : VectorsTo n k i j c s z z') (pair : IsPair n i j) (h : k < n) where
   old : (p q : ℕ) → p < n → q < n → k ≤ p → at z' (q * n + p) ≡ inSquare n z p q

@@ -3,11 +3,10 @@ use Prim.Native.Nat.{_+_, _*_}
 use native.Mathlib.Nat.{mul-add}
 use native.Mathlib.Omega.{arith}
 use borrow.Author.Needs.{needs}
-use borrow.Author.Tests.{eq-eqb, ne-eqb}
+use borrow.Author.Tests.{eq-eqb, ne-eqb, le-leb, lt-leb}
 use lib.ListN.{length}
 use Rattle.rules.specs.Limits.{limit}
 use Rattle.rules.specs.Matrices.{triangle}
-use borrow.Author.Tests.{le-leb, lt-leb}
 use Rattle.eig.proofs.Small.{product-small, triangle-large}
 use Rattle.eig.proofs.fits.Statement.{statement}
 use Rattle.eig.proofs.fits.Tie as tie

@@ -5,6 +5,7 @@ use mathlib.Core.Path.{ap, _∙_}
 use mathlib.Core.Logic.{⊎-elim}
 use borrow.Author.Needs.{needs}
 use lib.ListN.{length}
+use Rattle.rules.specs.Limits.{limit}
 use Rattle.eig.proofs.Rank1.{RebuiltTo, rebuilt-none, rebuilt-off, rebuilt-on, rebuilt-all, lent, lent-length, lent-inside}
 use Rattle.eig.proofs.rebuild.Statement.{statement}
 use Rattle.eig.proofs.rebuild.Tie as tie
@@ -14,6 +15,13 @@ Inv-loop n work x₀ k₀ x k = RebuiltTo n work k x × (n + n * n ≤ length wo
 
 abbrev μ-loop : tie.MeasureT-loop
 μ-loop n work x₀ k₀ x k = n - k
+
+-- the vector that is lent is a part of cone work
+inside : (c : tie.Then1 Inv-loop μ-loop) → ((c .before .before .before .before .before .before .before .before .before .before .args .n) + c .before .before .before .loop .k * (c .before .before .before .before .before .before .before .before .before .before .args .n) + (c .before .before .before .before .before .before .before .before .before .before .args .n) ≤ length (c .before .before .before .before .before .before .before .before .before .before .args .work .now)) × ((c .before .before .before .before .before .before .before .before .before .before .args .n) + c .before .before .before .loop .k * (c .before .before .before .before .before .before .before .before .before .before .args .n) + (c .before .before .before .before .before .before .before .before .before .before .args .n) ≤ limit + limit * limit)
+inside c =
+    let m = c .before .before in
+    let s = m .before .before .before .before .before .before .before .before in
+    lent-inside (s .args .n) (s .args .work .now) (m .before .loop .k) (m .before .loop .inv .1) (m .loop-test .taken) (s .pre .0 .order)
 
 clear-requires : tie.Need-clear-requires Inv-loop μ-loop
 clear-requires c κs = search needs
@@ -28,16 +36,16 @@ shared-slice-read-e : tie.Need-shared-slice-read-e Inv-loop μ-loop
 shared-slice-read-e c = search needs
 
 mul-from : tie.Need-mul-from Inv-loop μ-loop
-mul-from c = let m = c .before .before in let s = m .before .before .before .before .before .before .before .before in omega (arith, lent-inside (s .args .n) (s .args .work .now) (m .before .loop .k) (m .before .loop .inv .1) (m .loop-test .taken) (s .pre .0 .order))
+mul-from c = omega (arith, inside c)
 
 add-from : tie.Need-add-from Inv-loop μ-loop
-add-from c = let m = c .before .before in let s = m .before .before .before .before .before .before .before .before in omega (arith, lent-inside (s .args .n) (s .args .work .now) (m .before .loop .k) (m .before .loop .inv .1) (m .loop-test .taken) (s .pre .0 .order))
+add-from c = omega (arith, inside c)
 
 add-rank1op : tie.Need-add-rank1op Inv-loop μ-loop
-add-rank1op c = let m = c .before .before in let s = m .before .before .before .before .before .before .before .before in omega (arith, lent-inside (s .args .n) (s .args .work .now) (m .before .loop .k) (m .before .loop .inv .1) (m .loop-test .taken) (s .pre .0 .order))
+add-rank1op c = omega (arith, inside c)
 
 mul-rank1op : tie.Need-mul-rank1op Inv-loop μ-loop
-mul-rank1op c = let m = c .before .before in let s = m .before .before .before .before .before .before .before .before in omega (arith, lent-inside (s .args .n) (s .args .work .now) (m .before .loop .k) (m .before .loop .inv .1) (m .loop-test .taken) (s .pre .0 .order))
+mul-rank1op c = omega (arith, inside c)
 
 sub-rank1op : tie.Need-sub-rank1op Inv-loop μ-loop
 sub-rank1op c = search needs
@@ -46,7 +54,7 @@ part-rank1op-start : tie.Need-part-rank1op-start Inv-loop μ-loop
 part-rank1op-start c = search needs
 
 part-rank1op-end : tie.Need-part-rank1op-end Inv-loop μ-loop
-part-rank1op-end c = let m = c .before .before in let s = m .before .before .before .before .before .before .before .before in omega (arith, lent-inside (s .args .n) (s .args .work .now) (m .before .loop .k) (m .before .loop .inv .1) (m .loop-test .taken) (s .pre .0 .order))
+part-rank1op-end c = omega (arith, inside c)
 
 rank1op-requires : tie.Need-rank1op-requires Inv-loop μ-loop
 unfolding lent

@@ -17,7 +17,8 @@ use Rattle.rules.specs.Matrices.{triangle}
 use Rattle.rules.specs.Jacobi.{packed, inPacked, inSquare, packedPlace}
 use Rattle.rules.specs.Projections.{rebuiltEntry}
 use Rattle.rules.proofs.Arithmetic.{Reached, reached-all, each-length, each-at}
-use Rattle.rules.proofs.Columns.{by-less, by-same, tabulate-is, packed-self, packed-same, packed-is, packed-at, packed-set, packedPlace-le, inPacked-at, inSquare-place, triangle-inside}
+use Rattle.rules.proofs.Columns.{by-less, by-same, tabulate-is, packed-self, packed-same, packed-is, packed-at, packed-set, packedPlace-le, inPacked-at, inSquare-place}
+use Rattle.rules.proofs.Triangle.{triangle-inside}
 use Rattle.eig.specs.Sizes.{IsPacked}
 use Rattle.eig.specs.Turns.{added, plusColumn, plusRank1}
 use Rattle.eig.proofs.Small.{product-small}

@@ -14,6 +14,7 @@ use lib.Seq.{ext-getD, getD-append-add, getD-set-same, getD-set-other}
 use Rattle.rules.specs.Arithmetic.{at, tabulate, byColumns}
 use Rattle.rules.specs.Matrices.{triangle, place, entry}
 use Rattle.rules.specs.Jacobi.{packed, square, inPacked, inSquare, packedPlace}
+use Rattle.rules.proofs.Triangle.{triangle-more, triangle-grows, triangle-inside}
 
 -- ---- two cases
 
@@ -100,20 +101,6 @@ columns-is height n f xs same each =
     (λ p h. columns-same height n xs (byColumns height n f) (λ r c hr hc. each r c hr hc ∙ sym (columns-at height n f r c hr hc)) p (omega arith))
 
 -- ---- the packed triangle
-
-pub triangle-more : (n : ℕ) → triangle (n + 1) ≡ triangle n + (n + 1)
-triangle-more n =
-    let e : (n + 1) * (n + 1 + 1) ≡ n * (n + 1) + 2 * (n + 1) = omega (arith, mul-add (n + 1) (n + 1) 1, add-mul n 1 (n + 1)) in
-    rw e (omega arith)
-
-pub triangle-grows : (a b : ℕ) → a ≤ b → triangle a ≤ triangle b
-triangle-grows a b h =
-    let l : a * (a + 1) ≤ b * (b + 1) = mul-le-mul h (omega arith) in
-    omega arith
-
--- column c of the triangle, down to the diagonal, is stored
-pub triangle-inside : (c n : ℕ) → c < n → triangle c + (c + 1) ≤ triangle n
-triangle-inside c n h = omega (arith, triangle-more c, triangle-grows (c + 1) n (omega arith))
 
 before-triangle : (c : ℕ) → before (λ q. suc q) c ≡ triangle c
 unfolding before

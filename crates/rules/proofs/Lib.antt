@@ -3,6 +3,7 @@ pub mod Root
 pub mod RootNearest
 pub mod RootPatterns
 pub mod Arithmetic
+pub mod Triangle
 pub mod Columns
 pub mod Jacobi
 pub mod Run

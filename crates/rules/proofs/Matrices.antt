@@ -20,22 +20,7 @@ use Rattle.rules.specs.Arithmetic.{_+ᶠ_, _*ᶠ_, +0, at}
 use Rattle.rules.specs.Matrices.{nRow, nCol, triangle, storedLength, place, entry, entries, flipped, colSum, product, transformed, width, height, storedFits, Stored, transformFits}
 use Rattle.rules.proofs.Arithmetic.{sum-none, sum-same, each-same}
 use Rattle.rules.proofs.Vectors.{abssum-of-part, abssum-of-rest}
-
--- ---- the packed triangle
-
-pub triangle-more : (n : ℕ) → triangle (n + 1) ≡ triangle n + (n + 1)
-triangle-more n =
-    let e : (n + 1) * (n + 1 + 1) ≡ n * (n + 1) + 2 * (n + 1) = omega (arith, mul-add (n + 1) (n + 1) 1, add-mul n 1 (n + 1)) in
-    rw e (omega arith)
-
-pub triangle-grows : (a b : ℕ) → a ≤ b → triangle a ≤ triangle b
-triangle-grows a b h =
-    let l : a * (a + 1) ≤ b * (b + 1) = mul-le-mul h (omega arith) in
-    omega arith
-
--- column c of the triangle, down to the diagonal, is stored
-pub triangle-inside : (c n : ℕ) → c < n → triangle c + (c + 1) ≤ triangle n
-triangle-inside c n h = omega (arith, triangle-more c, triangle-grows (c + 1) n (omega arith))
+use Rattle.rules.proofs.Triangle.{triangle-more, triangle-grows, triangle-inside}
 
 -- ---- every entry is stored
 

@@ -6,7 +6,8 @@ use borrow.Author.Needs.{needs}
 use borrow.Author.Tests.{eq-eqb, ne-eqb, not-true, not-false}
 use Rattle.rules.specs.declared.MatType.the-variants.{SymPack}
 use Rattle.rules.specs.Matrices.{Stored}
-use Rattle.rules.proofs.Matrices.{triangle-inside, stored-if-fits, fits-if-stored}
+use Rattle.rules.proofs.Matrices.{stored-if-fits, fits-if-stored}
+use Rattle.rules.proofs.Triangle.{triangle-inside}
 use Rattle.rules.proofs.Outcome.{refused, done}
 use Rattle.matop.proofs.Packed.{Columns, columns-none, columns-more, columns-all}
 use Rattle.matop.proofs.absadd_packed.Statement.{statement}

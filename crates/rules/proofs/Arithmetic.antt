@@ -109,3 +109,6 @@ summed-none start f = record { is = sym (sum-none start f) }
 
 pub summed-more : {start : Float} {f : ℕ → Float} {n : ℕ} {s : Float} → Summed start f n s → Summed start f (n + 1) (s +ᶠ f n)
 summed-more {start} {f} {n} {s} r = record { is = rw (r .is) (sum-turn start f n) }
+
+pub summed-all : {start : Float} {f : ℕ → Float} {n m : ℕ} {s : Float} → Summed start f n s → n ≡ m → s ≡ sumFrom start m f
+summed-all {start} {f} {n} {m} {s} r e = rw (← e) (r .is)

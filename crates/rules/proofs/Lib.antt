@@ -6,4 +6,6 @@ pub mod Arithmetic
 pub mod Columns
 pub mod Jacobi
 pub mod Outcome
+pub mod Vectors
+pub mod Matrices
 pub mod WorkedByHand

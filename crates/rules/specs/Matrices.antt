@@ -1,5 +1,6 @@
 -- Document 01, "Port order", 2 and 3: the matrix routines of floatgeneric.rs and matop.rs. What dense and packed share is said once, over `entry`.
-use Prim.Native.Nat.{ℕ, suc, _+_, _-_, _*_, _/_}
+use Prim.Native.Nat.{ℕ, suc, _+_, _-_, _*_, _/_, _≤_}
+use mathlib.Core.Path.{_≡_}
 use mathlib.Core.Bool.{Bool, cond, _&&_, _||_}
 use mathlib.Core.List.{List}
 use lib.Dec.{leb, ltb, eqb}
@@ -41,6 +42,16 @@ entry t mat r c = at mat (place t r c)
 -- the matrix turned over: its rows are the columns
 abbrev pub flipped : (ℕ → ℕ → Float) → ℕ → ℕ → Float
 flipped entries r c = entries c r
+
+-- the matrix, or the matrix turned over
+abbrev pub entries : Bool → MatType → List Float → ℕ → ℕ → Float
+entries transpose t mat = cond transpose (flipped (entry t mat)) (entry t mat)
+
+abbrev pub height : Bool → MatType → ℕ
+height transpose t = cond transpose (nCol t) (nRow t)
+
+abbrev pub width : Bool → MatType → ℕ
+width transpose t = cond transpose (nRow t) (nCol t)
 
 -- row r of the matrix times x
 abbrev pub product : (ℕ → ℕ → Float) → List Float → ℕ → Float
@@ -87,6 +98,15 @@ absaddedRows (SymPack rows) mat y = each (λ r v. packedSum (entry (SymPack rows
 
 abbrev pub storedFits : MatType → List Float → Bool
 storedFits t mat = leb (nRow t) limit && leb (nCol t) limit && eqb (length mat) (storedLength t)
+
+-- the same, part by part
+pub record Stored (t : MatType) (mat : List Float) : Type 0 where
+  pub rows : nRow t ≤ limit
+  pub cols : nCol t ≤ limit
+  pub all : length mat ≡ storedLength t
+
+abbrev pub transformFits : Bool → MatType → List Float → List Float → List Float → Bool
+transformFits transpose t mat x y = storedFits t mat && eqb (length x) (width transpose t) && eqb (length y) (height transpose t)
 
 abbrev pub opFits : MatType → List Float → List Float → List Float → Bool
 opFits t mat x y = storedFits t mat && eqb (length x) (nCol t) && eqb (length y) (nRow t)

@@ -1,0 +1,117 @@
+-- Laws of the matrix rules: where entries are stored, and what the tests of sizes say.
+use Prim.Native.Nat.{ℕ, zero, suc, _+_, _-_, _*_, _/_, _<_, _≤_}
+use native.Mathlib.Numerals.{add-one}
+use native.Mathlib.Nat.{mul-comm, mul-add, add-mul, suc-mul, mul-le-mul, mul-le-mul-right}
+use native.Mathlib.Omega.{arith}
+use mathlib.Core.Path.{_≡_, refl, sym, ap, _∙_}
+use mathlib.Core.Bool.{Bool, true, false, cond, _&&_, true≢false, false≢true}
+use mathlib.Core.List.{List}
+use mathlib.Core.Logic.{⊎-elim}
+use borrow.Author.Tests.{ltb-true, ltb-false, leb-true, eqb-true, lt-ltb, le-ltb, le-leb, eq-eqb}
+use lib.Dec.{ltb, leb, eqb}
+use lib.Ieee.{Float}
+use lib.ListN.{length}
+use Rattle.rules.specs.declared.MatType.{MatType}
+use Rattle.rules.specs.declared.MatType.the-variants.{General, SymPack}
+use Rattle.rules.specs.declared.Rows.{Rows}
+use Rattle.rules.specs.Limits.{limit}
+use Rattle.rules.specs.Arithmetic.{_+ᶠ_, _*ᶠ_, +0, at, sumFrom}
+use Rattle.rules.specs.Matrices.{nRow, nCol, triangle, storedLength, place, entry, entries, product, transformed, width, height, storedFits, Stored, transformFits}
+use Rattle.rules.proofs.Arithmetic.{sum-same, each-same}
+
+-- ---- the packed triangle
+
+pub triangle-more : (n : ℕ) → triangle (n + 1) ≡ triangle n + (n + 1)
+triangle-more n =
+    let e : (n + 1) * (n + 1 + 1) ≡ n * (n + 1) + 2 * (n + 1) = omega (arith, mul-add (n + 1) (n + 1) 1, add-mul n 1 (n + 1)) in
+    rw e (omega arith)
+
+pub triangle-grows : (a b : ℕ) → a ≤ b → triangle a ≤ triangle b
+triangle-grows a b h =
+    let l : a * (a + 1) ≤ b * (b + 1) = mul-le-mul h (omega arith) in
+    omega arith
+
+-- column c of the triangle, down to the diagonal, is stored
+pub triangle-inside : (c n : ℕ) → c < n → triangle c + (c + 1) ≤ triangle n
+triangle-inside c n h = omega (arith, triangle-more c, triangle-grows (c + 1) n (omega arith))
+
+-- ---- every entry is stored
+
+dense-inside : (rows cols r c : ℕ) → r < rows → c < cols → c * rows + r < rows * cols
+dense-inside rows cols r c hr hc =
+    omega (arith, mul-le-mul-right rows (suc-le c cols hc), suc-mul c rows, mul-comm rows cols)
+  where
+    suc-le : (a b : ℕ) → a < b → suc a ≤ b
+    suc-le a b h = omega arith
+
+pub place-inside : (t : MatType) (r c : ℕ) → r < nRow t → c < nCol t → place t r c < storedLength t
+unfolding place
+place-inside (General rows cols) r c hr hc = dense-inside (rows .0) (cols .0) r c hr hc
+place-inside (SymPack rows) r c hr hc = go (ltb r c) refl
+  where
+    go : (b : Bool) → ltb r c ≡ b → cond b (triangle c + r) (triangle r + c) < triangle (rows .0)
+    go true e = omega (arith, ltb-true r c e, triangle-inside c (rows .0) hc)
+    go false e = omega (arith, ltb-false r c e, triangle-inside r (rows .0) hr)
+
+pub stored-inside : {t : MatType} {mat : List Float} → Stored t mat → (r c : ℕ) → r < nRow t → c < nCol t → place t r c < length mat
+stored-inside {t} {mat} s r c hr hc = rw (s .all) (place-inside t r c hr hc)
+
+-- a packed matrix is symmetric
+pub place-mirrored : (rows : Rows) (r c : ℕ) → place (SymPack rows) c r ≡ place (SymPack rows) r c
+unfolding place
+place-mirrored rows r c = go (ltb r c) (ltb c r) refl refl
+  where
+    go : (a b : Bool) → ltb r c ≡ a → ltb c r ≡ b → cond b (triangle r + c) (triangle c + r) ≡ cond a (triangle c + r) (triangle r + c)
+    go true true p q = absurd (omega (arith, ltb-true r c p, ltb-true c r q))
+    go true false p q = refl
+    go false true p q = refl
+    go false false p q =
+        let e : r ≡ c = omega (arith, ltb-false r c p, ltb-false c r q) in
+        rw e
+
+-- ---- a packed matrix turned over is the same
+
+pub packed-turned : (transpose : Bool) (rows : Rows) (mat : List Float) (r c : ℕ) → entries transpose (SymPack rows) mat r c ≡ entry (SymPack rows) mat r c
+unfolding entry
+packed-turned true rows mat r c = ap (at mat) (place-mirrored rows r c)
+packed-turned false rows mat r c = refl
+
+pub packed-fits : (transpose : Bool) (rows : Rows) (mat x y : List Float) → transformFits transpose (SymPack rows) mat x y ≡ transformFits false (SymPack rows) mat x y
+packed-fits true rows mat x y = refl
+packed-fits false rows mat x y = refl
+
+pub transformed-same : (alpha : Float) (e f : ℕ → ℕ → Float) (x : List Float) (beta : Float) (y : List Float) → ((r c : ℕ) → e r c ≡ f r c) → transformed alpha e x beta y ≡ transformed alpha f x beta y
+unfolding transformed
+transformed-same alpha e f x beta y h =
+    each-same (λ r v. alpha *ᶠ product e x r +ᶠ beta *ᶠ v) (λ r v. alpha *ᶠ product f x r +ᶠ beta *ᶠ v) y (λ r l. rw (sum-same +0 (λ c. e r c *ᶠ at x c) (λ c. f r c *ᶠ at x c) (length x) (λ c k. rw (h r c))))
+
+-- ---- what the tests of sizes say
+
+pub both-true : (a b : Bool) → a && b ≡ true → (a ≡ true) × (b ≡ true)
+both-true true b e = (refl, e)
+both-true false b e = absurd (false≢true e)
+
+pub stored-if-fits : {t : MatType} {mat : List Float} → storedFits t mat ≡ true → Stored t mat
+stored-if-fits {t} {mat} e =
+    let p = both-true (leb (nRow t) limit && leb (nCol t) limit) (eqb (length mat) (storedLength t)) e in
+    let q = both-true (leb (nRow t) limit) (leb (nCol t) limit) (p .0) in
+    record { rows = leb-true (nRow t) limit (q .0); cols = leb-true (nCol t) limit (q .1); all = eqb-true (length mat) (storedLength t) (p .1) }
+
+pub fits-if-stored : {t : MatType} {mat : List Float} → Stored t mat → storedFits t mat ≡ true
+fits-if-stored {t} {mat} s = rw (le-leb (nRow t) limit (s .rows), le-leb (nCol t) limit (s .cols)) (eq-eqb (length mat) (storedLength t) (s .all))
+
+pub record Fitting (transpose : Bool) (t : MatType) (mat x y : List Float) : Type 0 where
+  pub fits : transformFits transpose t mat x y ≡ true
+  pub stored : Stored t mat
+  pub wide : length x ≡ width transpose t
+  pub high : length y ≡ height transpose t
+
+pub fitting : {transpose : Bool} {t : MatType} {mat x y : List Float} → transformFits transpose t mat x y ≡ true → Fitting transpose t mat x y
+fitting {transpose} {t} {mat} {x} {y} e =
+    let p = both-true (storedFits t mat && eqb (length x) (width transpose t)) (eqb (length y) (height transpose t)) e in
+    let q = both-true (storedFits t mat) (eqb (length x) (width transpose t)) (p .0) in
+    record { fits = e; stored = stored-if-fits (q .0); wide = eqb-true (length x) (width transpose t) (q .1); high = eqb-true (length y) (height transpose t) (p .1) }
+
+-- sizes within the limits can be multiplied
+pub product-small : (a b : ℕ) → a ≤ limit → b ≤ limit + 1 → a * b ≤ 65792
+product-small a b h l = mul-le-mul h l

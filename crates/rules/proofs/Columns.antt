@@ -68,8 +68,8 @@ before-grows height c zero h = absurd (omega arith)
 before-grows height c (suc n) h =
     by-less c n (λ l. omega (arith, before-grows height c n l))
     (λ l.
-      let same : c ≡ n = omega arith in
-      rw same (omega arith))
+    let same : c ≡ n = omega arith in
+    rw same (omega arith))
 
 columns-at : (height : ℕ → ℕ) (n : ℕ) (f : ℕ → ℕ → Float) (r c : ℕ) → r < height c → c < n → at (byColumns height n f) (before height c + r) ≡ f r c
 unfolding byColumns before
@@ -77,12 +77,12 @@ columns-at height zero f r c hr hc = absurd (omega arith)
 columns-at height (suc n) f r c hr hc =
     by-less c n
     (λ l.
-      List·getD-append (byColumns height n f) (tabulate (height n) (λ p. f p n)) nan (before height c + r) (omega (arith, columns-length height n f, before-grows height c n l))
-      ∙ columns-at height n f r c hr l)
+    List·getD-append (byColumns height n f) (tabulate (height n) (λ p. f p n)) nan (before height c + r) (omega (arith, columns-length height n f, before-grows height c n l))
+    ∙ columns-at height n f r c hr l)
     (λ l.
-      let same : c ≡ n = omega arith in
-      let hr' : r < height n = rw same at hr in
-      rw (same, ← columns-length height n f) (getD-append-add (byColumns height n f) (tabulate (height n) (λ p. f p n)) r nan ∙ tabulate-at (height n) (λ p. f p n) r hr'))
+    let same : c ≡ n = omega arith in
+    let hr' : r < height n = rw same at hr in
+    rw (same, ← columns-length height n f) (getD-append-add (byColumns height n f) (tabulate (height n) (λ p. f p n)) r nan ∙ tabulate-at (height n) (λ p. f p n) r hr'))
 
 -- two lists that agree at every entry agree at every place
 columns-same : (height : ℕ → ℕ) (n : ℕ) (xs ys : List Float) → ((r c : ℕ) → r < height c → c < n → at xs (before height c + r) ≡ at ys (before height c + r)) → (p : ℕ) → p < before height n → at xs p ≡ at ys p
@@ -91,8 +91,8 @@ columns-same height zero xs ys same p h = absurd (omega arith)
 columns-same height (suc n) xs ys same p h =
     by-less p (before height n) (λ l. columns-same height n xs ys (λ r c hr hc. same r c hr (omega arith)) p l)
     (λ l.
-      let split : before height n + (p - before height n) ≡ p = omega arith in
-      rw split at (same (p - before height n) n (omega arith) (omega arith)))
+    let split : before height n + (p - before height n) ≡ p = omega arith in
+    rw split at (same (p - before height n) n (omega arith) (omega arith)))
 
 columns-is : (height : ℕ → ℕ) (n : ℕ) (f : ℕ → ℕ → Float) (xs : List Float) → length xs ≡ before height n → ((r c : ℕ) → r < height c → c < n → at xs (before height c + r) ≡ f r c) → xs ≡ byColumns height n f
 columns-is height n f xs same each =
@@ -157,16 +157,16 @@ pub square-apart : (n r c p q : ℕ) → r < n → p < n → c * n + r ≡ q * n
 square-apart n r c p q hr hp e =
     by-less c q
     (λ l.
-      let m : suc c ≤ q = omega arith in
-      absurd (omega (arith, mul-le-mul-right n m, suc-mul c n)))
+    let m : suc c ≤ q = omega arith in
+    absurd (omega (arith, mul-le-mul-right n m, suc-mul c n)))
     (λ l.
-      by-less q c
-      (λ k.
-        let m : suc q ≤ c = omega arith in
-        absurd (omega (arith, mul-le-mul-right n m, suc-mul q n)))
-      (λ k.
-        let same : c ≡ q = omega arith in
-        (omega (arith, ap (λ (m : ℕ). m * n) same), same)))
+    by-less q c
+    (λ k.
+    let m : suc q ≤ c = omega arith in
+    absurd (omega (arith, mul-le-mul-right n m, suc-mul q n)))
+    (λ k.
+    let same : c ≡ q = omega arith in
+    (omega (arith, ap (λ (m : ℕ). m * n) same), same)))
 
 -- ---- where an entry of a packed triangle stands
 
@@ -175,8 +175,8 @@ unfolding packedPlace
 packedPlace-le r c h =
     by-less r c (λ l. rw (lt-ltb r c l))
     (λ l.
-      let same : r ≡ c = omega arith in
-      rw (le-ltb r c l, same))
+    let same : r ≡ c = omega arith in
+    rw (le-ltb r c l, same))
 
 pub packedPlace-ge : (r c : ℕ) → c ≤ r → packedPlace r c ≡ triangle r + c
 unfolding packedPlace
@@ -197,21 +197,21 @@ pub triangle-apart : (r c p q : ℕ) → r ≤ c → p ≤ q → triangle c + r 
 triangle-apart r c p q hr hp e =
     by-less c q (λ l. absurd (omega (arith, triangle-inside c q l)))
     (λ l.
-      by-less q c (λ k. absurd (omega (arith, triangle-inside q c k)))
-      (λ k.
-        let same : c ≡ q = omega arith in
-        (omega (arith, ap (λ (m : ℕ). triangle m) same), same)))
+    by-less q c (λ k. absurd (omega (arith, triangle-inside q c k)))
+    (λ k.
+    let same : c ≡ q = omega arith in
+    (omega (arith, ap (λ (m : ℕ). triangle m) same), same)))
 
 -- Entries that share a place are the same two numbers, in either order: their sums and their differences are equal.
 pub packedPlace-apart : (r c p q : ℕ) → packedPlace r c ≡ packedPlace p q → (r + c ≡ p + q) × (r - c + (c - r) ≡ p - q + (q - p))
 packedPlace-apart r c p q e =
     by-less r c
     (λ u.
-      by-less p q (λ v. omega (arith, triangle-apart r c p q (omega arith) (omega arith) (sym (packedPlace-le r c (omega arith)) ∙ e ∙ packedPlace-le p q (omega arith))))
-      (λ v. omega (arith, triangle-apart r c q p (omega arith) v (sym (packedPlace-le r c (omega arith)) ∙ e ∙ packedPlace-ge p q v))))
+    by-less p q (λ v. omega (arith, triangle-apart r c p q (omega arith) (omega arith) (sym (packedPlace-le r c (omega arith)) ∙ e ∙ packedPlace-le p q (omega arith))))
+    (λ v. omega (arith, triangle-apart r c q p (omega arith) v (sym (packedPlace-le r c (omega arith)) ∙ e ∙ packedPlace-ge p q v))))
     (λ u.
-      by-less p q (λ v. omega (arith, triangle-apart c r p q u (omega arith) (sym (packedPlace-ge r c u) ∙ e ∙ packedPlace-le p q (omega arith))))
-      (λ v. omega (arith, triangle-apart c r q p u v (sym (packedPlace-ge r c u) ∙ e ∙ packedPlace-ge p q v))))
+    by-less p q (λ v. omega (arith, triangle-apart c r p q u (omega arith) (sym (packedPlace-ge r c u) ∙ e ∙ packedPlace-le p q (omega arith))))
+    (λ v. omega (arith, triangle-apart c r q p u v (sym (packedPlace-ge r c u) ∙ e ∙ packedPlace-ge p q v))))
 
 -- ---- a list by its own entries, and one store
 
@@ -246,10 +246,12 @@ packed-set {n} {f} g r c v {x} is hr hc new old =
   where
     same : length x ≡ triangle n
     same = ap length is ∙ packed-length n f
+
     here : (p q : ℕ) → p ≤ q → triangle q + p ≡ triangle c + r → at (set x (triangle c + r) v) (triangle q + p) ≡ g p q
     here p q hp e =
         let t = triangle-apart p q r c hp hr e in
         rw (t .0, t .1) (getD-set-same x (triangle c + r) v nan (omega (arith, same, triangle-inside c n hc)) ∙ sym new)
+
     elsewhere : (p q : ℕ) → p ≤ q → q < n → (triangle q + p ≡ triangle c + r → ⊥) → at (set x (triangle c + r) v) (triangle q + p) ≡ g p q
     elsewhere p q hp hq apart =
         getD-set-other x (triangle c + r) (triangle q + p) v nan apart
@@ -264,10 +266,12 @@ square-set {n} {f} g r c v {z} is hr hc new old =
   where
     same : length z ≡ n * n
     same = ap length is ∙ square-length n f
+
     here : (p q : ℕ) → p < n → q * n + p ≡ c * n + r → at (set z (c * n + r) v) (q * n + p) ≡ g p q
     here p q hp e =
         let t = square-apart n p q r c hp hr e in
         rw (t .0, t .1) (getD-set-same z (c * n + r) v nan (omega (arith, same, square-inside n r c hr hc)) ∙ sym new)
+
     elsewhere : (p q : ℕ) → p < n → q < n → (q * n + p ≡ c * n + r → ⊥) → at (set z (c * n + r) v) (q * n + p) ≡ g p q
     elsewhere p q hp hq apart =
         getD-set-other z (c * n + r) (q * n + p) v nan apart

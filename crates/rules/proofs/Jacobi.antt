@@ -57,6 +57,7 @@ pairs-more (suc k) =
   where
     add-two : (k : ℕ) → suc (suc k) - 1 ≡ k + 1
     add-two k = omega arith
+
     add-one' : (k : ℕ) → suc k - 1 ≡ k
     add-one' k = omega arith
 

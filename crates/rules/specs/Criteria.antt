@@ -8,39 +8,39 @@ use Rattle.rules.specs.Helpers.{one, magnitude, reciprocal}
 use Rattle.rules.specs.Arithmetic.{_+ᶠ_, _*ᶠ_, _/ᶠ_, +0, at}
 use Rattle.rules.specs.Vectors.{norm}
 use Rattle.rules.specs.Matrices.{opped, transOpped}
-use Rattle.rules.specs.Problem.{Problem}
+use Rattle.rules.specs.Problem.{Embed}
 use Rattle.rules.specs.Step.{State, xX, xY, xS, part, aOp, aTrans, bOp, bTrans, cOp, cTrans}
 use Rattle.rules.specs.Prepare.{Norms}
 
 -- the number tau
-abbrev pub tauOf : Problem → List Float → Float
-tauOf p x = at x (p .n + p .m + p .m)
+abbrev pub tauOf : Embed → List Float → Float
+tauOf k x = at x (k .n + k .m + k .m)
 
 -- p and d of the Rust, which stand at the front of rx
-abbrev pub withResiduals : List Float → List Float → Problem → List Float → List Float
-withResiduals pri dual p rx = pri ++ dual ++ drop (p .m + p .n) rx
+abbrev pub withResiduals : List Float → List Float → Embed → List Float → List Float
+withResiduals pri dual k rx = pri ++ dual ++ drop (k .m + k .n) rx
 
 -- ---- criteria_conv
 
-module _ (p : Problem) (x : List Float) where
+module _ (k : Embed) (x : List Float) where
   unfoldable pub primalResidual : List Float
   unfolding opped one neg reciprocal
   primalResidual =
-      let scale = reciprocal (tauOf p x) in
-      aOp p scale (xX p x) one (bOp p (neg one) (one ∷ []) scale (xS p x))
+      let scale = reciprocal (tauOf k x) in
+      aOp k scale (xX k x) one (bOp k (neg one) (one ∷ []) scale (xS k x))
 
   unfoldable pub dualResidual : List Float → List Float
   unfolding opped transOpped one reciprocal
-  dualResidual d = aTrans p (reciprocal (tauOf p x)) (xY p x) one (cOp p one (one ∷ []) +0 d)
+  dualResidual d = aTrans k (reciprocal (tauOf k x)) (xY k x) one (cOp k one (one ∷ []) +0 d)
 
   -- the one-place vector starts at 1, and the second product multiplies what the first left by 0
   unfoldable pub gapX : List Float
   unfolding transOpped one reciprocal
-  gapX = cTrans p (reciprocal (tauOf p x)) (xX p x) +0 (one ∷ [])
+  gapX = cTrans k (reciprocal (tauOf k x)) (xX k x) +0 (one ∷ [])
 
   unfoldable pub gapY : List Float
   unfolding transOpped gapX reciprocal
-  gapY = bTrans p (reciprocal (tauOf p x)) (xY p x) +0 gapX
+  gapY = bTrans k (reciprocal (tauOf k x)) (xY k x) +0 gapX
 
   unfoldable pub gap : Float
   unfolding gapX gapY magnitude one add div
@@ -51,23 +51,23 @@ module _ (p : Problem) (x : List Float) where
 
 -- ---- criteria_inf
 
-module _ (p : Problem) (x : List Float) where
+module _ (k : Embed) (x : List Float) where
   unfoldable pub ray : List Float
   unfolding opped one
-  ray = aOp p one (xX p x) one (xS p x)
+  ray = aOp k one (xX k x) one (xS k x)
 
   unfoldable pub dualRay : List Float → List Float
   unfolding transOpped one
-  dualRay d = aTrans p one (xY p x) +0 d
+  dualRay d = aTrans k one (xY k x) +0 d
 
   -- the one-place vector starts at 0
   unfoldable pub minusCX : List Float
   unfolding transOpped one neg
-  minusCX = cTrans p (neg one) (xX p x) +0 (+0 ∷ [])
+  minusCX = cTrans k (neg one) (xX k x) +0 (+0 ∷ [])
 
   unfoldable pub minusBY : List Float
   unfolding transOpped minusCX one neg
-  minusBY = bTrans p (neg one) (xY p x) +0 minusCX
+  minusBY = bTrans k (neg one) (xY k x) +0 minusCX
 
 -- a norm times another, over a number above eps_zero; infinite if it is not above
 unfoldable pub ratio : Float → Float → Float → Float → Float
@@ -84,22 +84,21 @@ pub record Judged : Type 0 where
   pub criteria : Criteria
   pub rx : List Float
 
-unfoldable pub judged : Problem → Norms → List Float → List Float → Judged
+unfoldable pub judged : Embed → Float → Norms → List Float → List Float → Judged
 unfolding primalResidual dualResidual gap ray dualRay minusCX minusBY ratio norm lt add div one
-judged p ns x rx =
-    let pri = primalResidual p x in
-    let dual = dualResidual p x (part (p .m) (p .n) rx) in
-    let r = ray p x in
-    let e = dualRay p x (part (p .m) (p .n) rx) in
-    let eps = p .par .«eps_zero» in
+judged k eps ns x rx =
+    let pri = primalResidual k x in
+    let dual = dualResidual k x (part (k .m) (k .n) rx) in
+    let r = ray k x in
+    let e = dualRay k x (part (k .m) (k .n) rx) in
     let converging : Judged =
     record {
-      criteria = conv (norm pri /ᶠ (one +ᶠ ns .normB)) (norm dual /ᶠ (one +ᶠ ns .normC)) (gap p x);
-      rx = withResiduals pri dual p rx;
+      criteria = conv (norm pri /ᶠ (one +ᶠ ns .normB)) (norm dual /ᶠ (one +ᶠ ns .normC)) (gap k x);
+      rx = withResiduals pri dual k rx;
     } in
     let diverging : Judged =
     record {
-      criteria = inf? (ratio eps (norm r) (ns .normC) (at (minusCX p x) 0)) (ratio eps (norm e) (ns .normB) (at (minusBY p x) 0));
-      rx = withResiduals r e p rx;
+      criteria = inf? (ratio eps (norm r) (ns .normC) (at (minusCX k x) 0)) (ratio eps (norm e) (ns .normB) (at (minusBY k x) 0));
+      rx = withResiduals r e k rx;
     } in
-    cond (lt eps (tauOf p x)) converging diverging
+    cond (lt eps (tauOf k x)) converging diverging

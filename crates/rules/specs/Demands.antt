@@ -12,7 +12,7 @@ use Rattle.rules.specs.declared.Cone.the-variants.{Zero, RPos, SOC, RotS
 use Rattle.rules.specs.declared.Ending.{Ending}
 use Rattle.rules.specs.declared.Ending.the-variants.{Converged}
 use Rattle.rules.specs.Product.{Failure, none, coneWork}
-use Rattle.rules.specs.Problem.{Problem, blocks, workLength}
+use Rattle.rules.specs.Problem.{Problem, embed, blocks, workLength}
 use Rattle.rules.specs.Step.{State}
 use Rattle.rules.specs.Criteria.{Criteria, conv, inf?, tauOf}
 use Rattle.rules.specs.Prepare.{prepared, preparedNorms}
@@ -80,7 +80,7 @@ pub record GoesOnExactly (p : Problem) (k : ℕ) (failure : Failure) (criteria :
 -- "Converged is answered exactly when at step k no cone failed, tau > eps_zero and all three criteria are at most eps_acc."
 pub record ConvergedTest (p : Problem) (t : Turn) (pri dual gap : Float) : Type 0 where
   pub no-cone-failed : t .failure ≡ none
-  pub tau-above : lt (p .par .«eps_zero») (tauOf p (t .state .x)) ≡ true
+  pub tau-above : lt (p .par .«eps_zero») (tauOf (embed p) (t .state .x)) ≡ true
   pub criteria-are : t .criteria ≡ conv pri dual gap
   pub primal-small : le pri (p .par .«eps_acc») ≡ true
   pub dual-small : le dual (p .par .«eps_acc») ≡ true

@@ -9,7 +9,7 @@ use Rattle.rules.specs.Arithmetic.{_+ᶠ_, _*ᶠ_, +0, at, each}
 use Rattle.rules.specs.Vectors.{norm, scaled, added, shifted}
 use Rattle.rules.specs.Matrices.{opped, absaddedCols, absaddedRows}
 use Rattle.rules.specs.Product.{groupAll, coneWork}
-use Rattle.rules.specs.Problem.{Problem, matrix, column, blocks, lengthX, lengthY}
+use Rattle.rules.specs.Problem.{Problem, Embed, embed, column, blocks, lengthX, lengthY}
 use Rattle.rules.specs.Step.{State, xX, xY, xS, xTau}
 
 abbrev pub zeros : ℕ → List Float
@@ -25,46 +25,46 @@ unfolding norm root add mul
 frNorm t = root binary64 (+0 +ᶠ norm t *ᶠ norm t)
 
 -- "Norms of b, then c, use the front of x."
-unfoldable pub withB : Problem → List Float → List Float
+unfoldable pub withB : Embed → List Float → List Float
 unfolding columnIn
-withB p x = columnIn (p .m) (p .b) (take (p .m) x) ++ drop (p .m) x
+withB k x = columnIn (k .m) (k .b) (take (k .m) x) ++ drop (k .m) x
 
-unfoldable pub withC : Problem → List Float → List Float
+unfoldable pub withC : Embed → List Float → List Float
 unfolding columnIn
-withC p x = columnIn (p .n) (p .c) (take (p .n) x) ++ drop (p .n) x
+withC k x = columnIn (k .n) (k .c) (take (k .n) x) ++ drop (k .n) x
 
 pub record Norms : Type 0 where
   pub normB : Float
   pub normC : Float
 
-unfoldable pub norms : Problem → List Float → Norms
+unfoldable pub norms : Embed → List Float → Norms
 unfolding withB withC frNorm
-norms p x = record { normB = frNorm (take (p .m) (withB p x)); normC = frNorm (take (p .n) (withC p (withB p x))) }
+norms k x = record { normB = frNorm (take (k .m) (withB k x)); normC = frNorm (take (k .n) (withC k (withB k x))) }
 
 -- "Then x and y are multiplied by 0 and tau is set to 1."
-unfoldable pub startX : Problem → List Float → List Float
+unfoldable pub startX : Embed → List Float → List Float
 unfolding withB withC scaled one
-startX p x = set (scaled +0 (withC p (withB p x))) (p .n + p .m + p .m) one
+startX k x = set (scaled +0 (withC k (withB k x))) (k .n + k .m + k .m) one
 
 -- ---- diagonals
 
 -- "sums as in abssum: the primal part's is 1, and y's m places add that 1"
-module _ (p : Problem) (tau : List Float) where
+module _ (k : Embed) (tau : List Float) where
   unfoldable pub sumsX : List Float
   unfolding absaddedCols absaddedRows
-  sumsX = absaddedRows (column (p .n)) (p .c) (absaddedCols (matrix p) (p .a) (xX p tau))
+  sumsX = absaddedRows (column (k .n)) (k .c) (absaddedCols (k .t) (k .a) (xX k tau))
 
   unfoldable pub sumsY : List Float
   unfolding absaddedRows
-  sumsY = absaddedRows (column (p .m)) (p .b) (absaddedRows (matrix p) (p .a) (xY p tau))
+  sumsY = absaddedRows (column (k .m)) (k .b) (absaddedRows (k .t) (k .a) (xY k tau))
 
   unfoldable pub sumsS : List Float
   unfolding shifted one
-  sumsS = shifted one (xS p tau)
+  sumsS = shifted one (xS k tau)
 
   unfoldable pub sumsTau : List Float
   unfolding absaddedCols
-  sumsTau = absaddedCols (column (p .m)) (p .b) (absaddedCols (column (p .n)) (p .c) (xTau p tau))
+  sumsTau = absaddedCols (column (k .m)) (k .b) (absaddedCols (column (k .n)) (k .c) (xTau k tau))
 
 -- "Diagonals are 1 over the larger of the absolute sum and eps_zero"
 unfoldable pub diagonal : Float → List Float → List Float
@@ -75,19 +75,19 @@ diagonal eps sums = each (λ k v. reciprocal (larger v eps)) sums
 unfoldable pub groupedX : Problem → List Float → List Float
 unfolding groupAll
 groupedX p d =
-    xX p d ++ groupAll (blocks p) (xY p d) ++ groupAll (blocks p) (xS p d) ++ xTau p d
+    xX (embed p) d ++ groupAll (blocks p) (xY (embed p) d) ++ groupAll (blocks p) (xS (embed p) d) ++ xTau (embed p) d
 
 unfoldable pub dpTauOf : Problem → List Float → List Float
 unfolding sumsX sumsY sumsS sumsTau diagonal groupedX scaled
 dpTauOf p tau =
     let t = scaled +0 tau in
-    groupedX p (diagonal (p .par .«eps_zero») (sumsX p t ++ sumsY p t ++ sumsS p t ++ sumsTau p t))
+    groupedX p (diagonal (p .par .«eps_zero») (sumsX (embed p) t ++ sumsY (embed p) t ++ sumsS (embed p) t ++ sumsTau (embed p) t))
 
 unfoldable pub dpSigmaOf : Problem → List Float → List Float
 unfolding sumsX sumsY sumsS sumsTau diagonal scaled added one
 dpSigmaOf p tau =
     let t = scaled +0 tau in
-    diagonal (p .par .«eps_zero») (sumsX p t ++ added one (sumsS p t) (sumsY p t) ++ sumsTau p t)
+    diagonal (p .par .«eps_zero») (sumsX (embed p) t ++ added one (sumsS (embed p) t) (sumsY (embed p) t) ++ sumsTau (embed p) t)
 
 -- "On acceptance the required part of both buffers becomes +0", and then the run is prepared.
 unfoldable pub prepared : Problem → State
@@ -96,7 +96,7 @@ prepared p =
     let longX = zeros (lengthX (p .m) (p .n)) in
     let longY = zeros (lengthY (p .m) (p .n)) in
     record {
-      x = startX p longX;
+      x = startX (embed p) longX;
       y = scaled +0 longY;
       dpTau = dpTauOf p longX;
       dpSigma = dpSigmaOf p longX;
@@ -106,4 +106,4 @@ prepared p =
     }
 
 abbrev pub preparedNorms : Problem → Norms
-preparedNorms p = norms p (zeros (lengthX (p .m) (p .n)))
+preparedNorms p = norms (embed p) (zeros (lengthX (p .m) (p .n)))

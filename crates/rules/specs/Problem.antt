@@ -34,6 +34,18 @@ column rows = General (record { 0 = rows }) (record { 0 = 1 })
 abbrev pub matrix : Problem → MatType
 matrix p = matrixOf (p .storage) (p .m) (p .n)
 
+-- SelfDualEmbed of the Rust: the three operators, with their sizes
+pub record Embed : Type 0 where
+  pub m : ℕ
+  pub n : ℕ
+  pub t : MatType
+  pub c : List Float
+  pub a : List Float
+  pub b : List Float
+
+abbrev pub embed : Problem → Embed
+embed p = record { m = p .m; n = p .n; t = matrix p; c = p .c; a = p .a; b = p .b }
+
 abbrev pub blocks : Problem → List Cone
 blocks p = blocksOf (p .words)
 

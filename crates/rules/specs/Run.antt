@@ -12,7 +12,7 @@ use Rattle.rules.specs.declared.SolverParam.{SolverParam}
 use Rattle.rules.specs.Helpers.{reciprocal}
 use Rattle.rules.specs.Vectors.{scaled}
 use Rattle.rules.specs.Product.{Failure, none, block, coneWork}
-use Rattle.rules.specs.Problem.{Problem, blocks, workLength}
+use Rattle.rules.specs.Problem.{Problem, embed, blocks, workLength}
 use Rattle.rules.specs.Step.{State, updated, xX, xY}
 use Rattle.rules.specs.Criteria.{Criteria, conv, inf?, judged, tauOf}
 use Rattle.rules.specs.Prepare.{Norms, norms, prepared, preparedNorms, zeros}
@@ -30,7 +30,7 @@ unfolding updated judged
 turn p ns s =
     let u = updated p s in
     let v = u .state in
-    let j = judged p ns (v .x) (v .rx) in
+    let j = judged (embed p) (p .par .«eps_zero») ns (v .x) (v .rx) in
     let after : State =
     record { x = v .x; y = v .y; dpTau = v .dpTau; dpSigma = v .dpSigma; rx = j .rx; tx = v .tx; cone = v .cone } in
     record { state = after; rotations = u .rotations; failure = u .failure; criteria = j .criteria }
@@ -112,8 +112,8 @@ isConeFailure (ConeFailure b) = true
 unfoldable pub finalX : Problem → Ending → List Float → List Float
 unfolding scaled reciprocal
 finalX p e x =
-    let by = reciprocal (tauOf p x) in
-    cond (isScaled e) (scaled by (xX p x) ++ scaled by (xY p x) ++ drop (p .n + p .m) x) x
+    let by = reciprocal (tauOf (embed p) x) in
+    cond (isScaled e) (scaled by (xX (embed p) x) ++ scaled by (xY (embed p) x) ++ drop (p .n + p .m) x) x
 
 -- all of work
 abbrev pub laidOut : Problem → Ending → State → List Float

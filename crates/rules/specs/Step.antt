@@ -9,7 +9,7 @@ use Rattle.rules.specs.Arithmetic.{_-ᶠ_, +0, at}
 use Rattle.rules.specs.Vectors.{scaled, added, transformedDi}
 use Rattle.rules.specs.Matrices.{opped, transOpped}
 use Rattle.rules.specs.Product.{Failure, Passed, projAll, isNone}
-use Rattle.rules.specs.Problem.{Problem, matrix, column, blocks, lengthY}
+use Rattle.rules.specs.Problem.{Problem, Embed, embed, column, blocks, lengthY}
 
 -- the part of k places from place i on
 abbrev pub part : ℕ → ℕ → List Float → List Float
@@ -26,84 +26,84 @@ pub record State : Type 0 where
   pub cone : List Float
 
 -- the places of a vector like x, and of one like y
-module _ (p : Problem) (v : List Float) where
+module _ (k : Embed) (v : List Float) where
   abbrev pub xX : List Float
-  xX = part 0 (p .n) v
+  xX = part 0 (k .n) v
 
   abbrev pub xY : List Float
-  xY = part (p .n) (p .m) v
+  xY = part (k .n) (k .m) v
 
   abbrev pub xS : List Float
-  xS = part (p .n + p .m) (p .m) v
+  xS = part (k .n + k .m) (k .m) v
 
   abbrev pub xTau : List Float
-  xTau = part (p .n + p .m + p .m) 1 v
+  xTau = part (k .n + k .m + k .m) 1 v
 
   abbrev pub yN : List Float
-  yN = part 0 (p .n) v
+  yN = part 0 (k .n) v
 
   abbrev pub yM : List Float
-  yM = part (p .n) (p .m) v
+  yM = part (k .n) (k .m) v
 
   abbrev pub y1 : List Float
-  y1 = part (p .n + p .m) 1 v
+  y1 = part (k .n + k .m) 1 v
 
 -- ---- the operator of the embedding
 
 -- c, A and b, and the three transposed: alpha * (matrix times u) + beta * v
-module _ (p : Problem) (alpha : Float) (u : List Float) (beta : Float) (v : List Float) where
+module _ (k : Embed) (alpha : Float) (u : List Float) (beta : Float) (v : List Float) where
   abbrev pub cOp : List Float
-  cOp = opped (column (p .n)) alpha (p .c) u beta v
+  cOp = opped (column (k .n)) alpha (k .c) u beta v
 
   abbrev pub aOp : List Float
-  aOp = opped (matrix p) alpha (p .a) u beta v
+  aOp = opped (k .t) alpha (k .a) u beta v
 
   abbrev pub bOp : List Float
-  bOp = opped (column (p .m)) alpha (p .b) u beta v
+  bOp = opped (column (k .m)) alpha (k .b) u beta v
 
   abbrev pub cTrans : List Float
-  cTrans = transOpped (column (p .n)) alpha (p .c) u beta v
+  cTrans = transOpped (column (k .n)) alpha (k .c) u beta v
 
   abbrev pub aTrans : List Float
-  aTrans = transOpped (matrix p) alpha (p .a) u beta v
+  aTrans = transOpped (k .t) alpha (k .a) u beta v
 
   abbrev pub bTrans : List Float
-  bTrans = transOpped (column (p .m)) alpha (p .b) u beta v
+  bTrans = transOpped (column (k .m)) alpha (k .b) u beta v
 
 -- SelfDualEmbed::op: from a vector like x to one like y
-module _ (p : Problem) (alpha : Float) (x : List Float) (beta : Float) (y : List Float) where
+module _ (k : Embed) (alpha : Float) (x : List Float) (beta : Float) (y : List Float) where
   unfoldable pub opN : List Float
   unfolding opped transOpped one
-  opN = cOp p alpha (xTau p x) one (aTrans p alpha (xY p x) beta (yN p y))
+  opN = cOp k alpha (xTau k x) one (aTrans k alpha (xY k x) beta (yN k y))
 
   unfoldable pub opM : List Float
   unfolding opped added neg one
-  opM = bOp p alpha (xTau p x) one (added (neg alpha) (xS p x) (aOp p (neg alpha) (xX p x) beta (yM p y)))
+  opM = bOp k alpha (xTau k x) one (added (neg alpha) (xS k x) (aOp k (neg alpha) (xX k x) beta (yM k y)))
 
   unfoldable pub op1 : List Float
   unfolding transOpped neg one
-  op1 = bTrans p (neg alpha) (xY p x) one (cTrans p (neg alpha) (xX p x) beta (y1 p y))
+  op1 = bTrans k (neg alpha) (xY k x) one (cTrans k (neg alpha) (xX k x) beta (y1 k y))
 
   abbrev pub opK : List Float
   opK = opN ++ opM ++ op1
 
 -- SelfDualEmbed::trans_op: from a vector like y to one like x
-module _ (p : Problem) (alpha : Float) (y : List Float) (beta : Float) (x : List Float) where
+module _ (k : Embed) (alpha : Float) (y : List Float) (beta : Float) (x : List Float) where
   unfoldable pub transX : List Float
   unfolding opped transOpped neg one
-  transX = cOp p (neg alpha) (y1 p y) one (aTrans p (neg alpha) (yM p y) beta (xX p x))
+  transX = cOp k (neg alpha) (y1 k y) one (aTrans k (neg alpha) (yM k y) beta (xX k x))
 
   unfoldable pub transY : List Float
   unfolding opped neg one
-  transY = bOp p (neg alpha) (y1 p y) one (aOp p alpha (yN p y) beta (xY p x))
+  transY = bOp k (neg alpha) (y1 k y) one (aOp k alpha (yN k y) beta (xY k x))
 
   unfoldable pub transS : List Float
   unfolding added scaled neg
-  transS = added (neg alpha) (yM p y) (scaled beta (xS p x))
+  transS = added (neg alpha) (yM k y) (scaled beta (xS k x))
 
   unfoldable pub transTau : List Float
   unfolding transOpped one
-  transTau = bTrans p alpha (yM p y) one (cTrans p alpha (yN p y) beta (xTau p x))
+  transTau = bTrans k alpha (yM k y) one (cTrans k alpha (yN k y) beta (xTau k x))
 
   abbrev pub transOpK : List Float
   transOpK = transX ++ transY ++ transS ++ transTau
@@ -114,7 +114,7 @@ module _ (p : Problem) (alpha : Float) (y : List Float) (beta : Float) (x : List
 unfoldable pub movedX : Problem → State → State
 unfolding transX transY transS transTau transformedDi one neg
 movedX p s =
-    let tx = transOpK p (neg one) (s .y) +0 (s .tx) in
+    let tx = transOpK (embed p) (neg one) (s .y) +0 (s .tx) in
     record {
       x = transformedDi one (s .dpTau) tx one (s .x);
       y = s .y;
@@ -129,9 +129,9 @@ movedX p s =
 unfoldable pub projected : Problem → List Float → List Float → Passed
 unfolding projAll
 projected p x cone =
-    let dual = projAll (p .par) true (blocks p) (xY p x) cone in
-    let x' = xX p x ++ dual .cone ++ drop (p .n + p .m) x in
-    let primal = projAll (p .par) false (blocks p) (xS p x') (dual .work) in
+    let dual = projAll (p .par) true (blocks p) (xY (embed p) x) cone in
+    let x' = xX (embed p) x ++ dual .cone ++ drop (p .n + p .m) x in
+    let primal = projAll (p .par) false (blocks p) (xS (embed p) x') (dual .work) in
     let both : Passed =
     record {
       cone = take (p .n + p .m) x' ++ primal .cone ++ drop (p .n + p .m + p .m) x';
@@ -152,7 +152,7 @@ unfoldable pub movedY : Problem → State → State
 unfolding opN opM op1 added transformedDi smaller one neg sub
 movedY p s =
     let rx = added (neg one -ᶠ one) (s .x) (s .rx) in
-    let ty = opK p (neg one) rx +0 (take (lengthY (p .m) (p .n)) (s .tx)) in
+    let ty = opK (embed p) (neg one) rx +0 (take (lengthY (p .m) (p .n)) (s .tx)) in
     let y = transformedDi one (s .dpSigma) ty one (s .y) in
     record {
       x = s .x;

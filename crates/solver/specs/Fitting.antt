@@ -1,0 +1,30 @@
+-- What the solver's functions ask of each other: sizes within the limits, and lengths that fit.
+use Prim.Native.Nat.{ℕ, _≤_}
+use mathlib.Core.Path.{_≡_}
+use mathlib.Core.List.{List}
+use lib.Ieee.{Float}
+use lib.ListN.{length}
+use Rattle.rules.specs.declared.MatType.{MatType}
+use Rattle.rules.specs.Limits.{limit}
+use Rattle.rules.specs.Matrices.{nRow, nCol, storedLength}
+use Rattle.rules.specs.Problem.{Embed, lengthX, lengthY}
+
+abbrev pub embedOf : ℕ → ℕ → MatType → List Float → List Float → List Float → Embed
+embedOf m n t c a b = record { m = m; n = n; t = t; c = c; a = a; b = b }
+
+-- the operators have the sizes that they say
+pub record Fits (k : Embed) : Type 0 where
+  pub m-within : k .m ≤ limit
+  pub n-within : k .n ≤ limit
+  pub rows : nRow (k .t) ≡ k .m
+  pub cols : nCol (k .t) ≡ k .n
+  pub a-length : length (k .a) ≡ storedLength (k .t)
+  pub c-length : length (k .c) ≡ k .n
+  pub b-length : length (k .b) ≡ k .m
+
+-- a vector like x, and one like y
+pub record LikeX (m n : ℕ) (x : List Float) : Type 0 where
+  pub is : length x ≡ lengthX m n
+
+pub record LikeY (m n : ℕ) (y : List Float) : Type 0 where
+  pub is : length y ≡ lengthY m n

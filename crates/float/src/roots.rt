@@ -74,17 +74,16 @@ fn guess(x: f64, b: u64) -> f64
         + rr * (0.3124999932718242 + r * 0.2734337276310497);
     let high = (0.24609646123592888 + r * 0.22719872423730225) + rr * 0.20992340033545645;
     let f = 1.0 + r * (low + (rr * rr) * high);
-    let s = t * f;
-    let c = cut(s);
-    let u = s - c;
-    c + ((x - c * c) + u * u) * (0.5 * y * f)
+    mended(x, t * f, 0.5 * y * f)
 }
 
-// The 26 leading digits of s.
-fn cut(s: f64) -> f64 {
+// The last step of the guess: s as above, and h for 1/(2 * √x). c has the 26 leading digits of s.
+fn mended(x: f64, s: f64, h: f64) -> f64 {
     if s == s {
         let b = f64::to_bits(s);
-        f64::from_bits(b - b % 134217728)
+        let c = f64::from_bits(b - b % 134217728);
+        let u = s - c;
+        c + ((x - c * c) + u * u) * h
     } else {
         s
     }

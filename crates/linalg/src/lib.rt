@@ -45,7 +45,7 @@ pub fn scale(alpha: f64, x: &mut [f64])
 pub fn add(alpha: f64, x: &[f64], y: &mut [f64]) -> bool
     ensures { λ r. ⌜ Outcome (sameLength (now (x .entry)) (now (y .entry))) (added alpha (now (x .entry)) (now (y .entry))) (now (y .entry)) r (now (y .exit)) ⌝ }
 {
-    if x.len() != y.len() {
+    if y.len() != x.len() {
         return false;
     }
     for i in 0..x.len() {
@@ -88,7 +88,7 @@ pub fn transform_di(alpha: f64, mat: &[f64], x: &[f64], beta: f64, y: &mut [f64]
     if mat.len() != y.len() {
         return false;
     }
-    if x.len() != y.len() {
+    if mat.len() != x.len() {
         return false;
     }
     for i in 0..y.len() {

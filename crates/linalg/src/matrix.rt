@@ -14,7 +14,7 @@ ghost use Rattle.rules.specs.Matrices as rules;
 ghost use Rattle.rules.specs.declared.MatType.the-variants.{General, SymPack};
 
 // How many rows.
-pub fn n_row(t: MatType) -> usize
+fn n_row(t: MatType) -> usize
     ensures { λ r. ⌜ r ≡ nRow t ⌝ }
 {
     match t {
@@ -24,7 +24,7 @@ pub fn n_row(t: MatType) -> usize
 }
 
 // How many columns.
-pub fn n_col(t: MatType) -> usize
+fn n_col(t: MatType) -> usize
     ensures { λ r. ⌜ r ≡ nCol t ⌝ }
 {
     match t {
@@ -34,14 +34,14 @@ pub fn n_col(t: MatType) -> usize
 }
 
 // How many rows, or rows of the matrix turned over.
-fn height(transpose: bool, t: MatType) -> usize
+pub fn height(transpose: bool, t: MatType) -> usize
     ensures { λ r. ⌜ r ≡ rules.height transpose t ⌝ }
 {
     if transpose { n_col(t) } else { n_row(t) }
 }
 
 // How many columns, or columns of the matrix turned over.
-fn width(transpose: bool, t: MatType) -> usize
+pub fn width(transpose: bool, t: MatType) -> usize
     ensures { λ r. ⌜ r ≡ rules.width transpose t ⌝ }
 {
     if transpose { n_row(t) } else { n_col(t) }

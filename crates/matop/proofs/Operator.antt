@@ -1,5 +1,5 @@
 -- Laws of a matrix as an operator: an empty one only scales, and a packed one turned over is the same.
-use mathlib.Core.Path.{_≡_, refl, sym}
+use mathlib.Core.Path.{_≡_}
 use mathlib.Core.Bool.{Bool, true, false}
 use mathlib.Core.List.{List}
 use lib.Ieee.{Float}

@@ -45,6 +45,14 @@ eachTo-later f (suc n) [] i h = refl
 eachTo-later f (suc n) (x ∷ xs) zero h = absurd (omega arith)
 eachTo-later f (suc n) (x ∷ xs) (suc i) h = eachTo-later (λ k v. f (suc k) v) n xs i (omega arith)
 
+-- a place that a turn has reached
+pub eachTo-at : (f : ℕ → Float → Float) (n : ℕ) (xs : List Float) (i : ℕ) → i < n → i < length xs → at (eachTo f n xs) i ≡ f i (at xs i)
+unfolding eachTo
+eachTo-at f n [] i h l = absurd (omega arith)
+eachTo-at f zero (x ∷ xs) i h l = absurd (omega arith)
+eachTo-at f (suc n) (x ∷ xs) zero h l = refl
+eachTo-at f (suc n) (x ∷ xs) (suc i) h l = eachTo-at (λ k v. f (suc k) v) n xs i (omega arith) (omega arith)
+
 pub each-turn : (f : ℕ → Float → Float) (n : ℕ) (xs : List Float) → n < length xs → set (eachTo f n xs) n (f n (at xs n)) ≡ eachTo f (n + 1) xs
 unfolding eachTo
 each-turn f n xs h = rw (add-one n) (go f n xs h)

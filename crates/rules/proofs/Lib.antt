@@ -5,6 +5,15 @@ pub mod RootPatterns
 pub mod Arithmetic
 pub mod Columns
 pub mod Jacobi
+pub mod Run
+pub mod Converged
+pub mod Refusals
+pub mod Rotations
+pub mod KernelLengths
+pub mod Lengths
+pub mod Accepted
+pub mod OldContents
+pub mod Demands
 pub mod Outcome
 pub mod Vectors
 pub mod Matrices

@@ -1,23 +1,25 @@
 -- Laws of the matrix rules: where entries are stored, and what the tests of sizes say.
-use Prim.Native.Nat.{ℕ, zero, suc, _+_, _-_, _*_, _/_, _<_, _≤_}
-use native.Mathlib.Numerals.{add-one}
-use native.Mathlib.Nat.{mul-comm, mul-add, add-mul, suc-mul, mul-le-mul, mul-le-mul-right}
+use Prim.Native.Nat.{ℕ, zero, suc, _+_, _-_, _*_, _<_, _≤_}
+use native.Mathlib.Nat.{mul-comm, mul-add, add-mul, suc-mul, mul-le-mul, mul-le-mul-left, mul-le-mul-right, mul-zero, mul-suc}
 use native.Mathlib.Omega.{arith}
 use mathlib.Core.Path.{_≡_, refl, sym, ap, _∙_}
-use mathlib.Core.Bool.{Bool, true, false, cond, _&&_, true≢false, false≢true}
+use mathlib.Core.Bool.{Bool, true, false, cond, _&&_, false≢true}
 use mathlib.Core.List.{List}
-use mathlib.Core.Logic.{⊎-elim}
-use borrow.Author.Tests.{ltb-true, ltb-false, leb-true, eqb-true, lt-ltb, le-ltb, le-leb, eq-eqb}
+use borrow.Author.Tests.{ltb-true, ltb-false, leb-true, eqb-true, le-leb, eq-eqb}
 use lib.Dec.{ltb, leb, eqb}
 use lib.Ieee.{Float}
-use lib.ListN.{length}
+use lib.ListN.{length, take, drop}
 use Rattle.rules.specs.declared.MatType.{MatType}
 use Rattle.rules.specs.declared.MatType.the-variants.{General, SymPack}
 use Rattle.rules.specs.declared.Rows.{Rows}
+use Rattle.rules.specs.declared.Cols.{Cols}
+use Rattle.rules.specs.Helpers.{magnitude}
+use Rattle.rules.specs.Vectors.{abssum}
 use Rattle.rules.specs.Limits.{limit}
-use Rattle.rules.specs.Arithmetic.{_+ᶠ_, _*ᶠ_, +0, at, sumFrom}
-use Rattle.rules.specs.Matrices.{nRow, nCol, triangle, storedLength, place, entry, entries, product, transformed, width, height, storedFits, Stored, transformFits}
-use Rattle.rules.proofs.Arithmetic.{sum-same, each-same}
+use Rattle.rules.specs.Arithmetic.{_+ᶠ_, _*ᶠ_, +0, at}
+use Rattle.rules.specs.Matrices.{nRow, nCol, triangle, storedLength, place, entry, entries, flipped, colSum, product, transformed, width, height, storedFits, Stored, transformFits}
+use Rattle.rules.proofs.Arithmetic.{sum-none, sum-same, each-same}
+use Rattle.rules.proofs.Vectors.{abssum-of-part, abssum-of-rest}
 
 -- ---- the packed triangle
 
@@ -56,6 +58,51 @@ place-inside (SymPack rows) r c hr hc = go (ltb r c) refl
 pub stored-inside : {t : MatType} {mat : List Float} → Stored t mat → (r c : ℕ) → r < nRow t → c < nCol t → place t r c < length mat
 stored-inside {t} {mat} s r c hr hc = rw (s .all) (place-inside t r c hr hc)
 
+-- ---- the lines of a dense matrix
+
+module _ {rows : Rows} {cols : Cols} {mat : List Float} (s : Stored (General rows cols) mat) where
+  -- a column is stored, from its start
+  pub column-inside : (c : ℕ) → c < cols .0 → c * rows .0 + rows .0 ≤ length mat
+  column-inside c h = go (suc-le c (cols .0) h)
+    where
+      suc-le : (a b : ℕ) → a < b → suc a ≤ b
+      suc-le a b h = omega arith
+
+      go : suc c ≤ cols .0 → c * rows .0 + rows .0 ≤ length mat
+      go h = rw (s .all) (omega (arith, mul-le-mul-right (rows .0) h, suc-mul c (rows .0), mul-comm (rows .0) (cols .0)))
+
+  -- a matrix of which something is stored has columns, and each row starts within
+  pub some-columns : 0 < length mat → 0 < cols .0
+  some-columns h = go (cols .0) (rw (s .all) at h)
+    where
+      go : (n : ℕ) → 0 < rows .0 * n → 0 < n
+      go zero l = omega (arith, mul-zero (rows .0))
+      go (suc n) l = omega arith
+
+  pub row-inside : (r : ℕ) → r < rows .0 → 0 < length mat → r < length mat
+  row-inside r h l =
+      let p : rows .0 * 1 ≤ rows .0 * cols .0 = mul-le-mul-left (rows .0) (some-columns l) in
+      rw (s .all) (omega arith)
+
+  pub no-columns : (r : ℕ) → r < rows .0 → length mat ≡ 0 → cols .0 ≡ 0
+  no-columns r h e = go (cols .0) (sym (s .all) ∙ e)
+    where
+      go : (n : ℕ) → rows .0 * n ≡ 0 → n ≡ 0
+      go zero l = refl
+      go (suc n) l = absurd (omega (arith, mul-suc (rows .0) n))
+
+  pub column-sum : (c : ℕ) → c < cols .0 → abssum (take (c * rows .0 + rows .0 - c * rows .0) (drop (c * rows .0) mat)) 1 ≡ colSum (entry (General rows cols) mat) (rows .0) c
+  unfolding entry
+  column-sum c h = abssum-of-part mat (c * rows .0) (c * rows .0 + rows .0) (rows .0) refl (column-inside c h)
+
+  pub row-sum : (r : ℕ) → r < rows .0 → 0 < length mat → abssum (take (length mat - r) (drop r mat)) (rows .0) ≡ colSum (flipped (entry (General rows cols) mat)) (cols .0) r
+  unfolding entry
+  row-sum r h l = abssum-of-rest mat r (rows .0) (cols .0) h (some-columns l) (s .all)
+
+  pub row-sum-none : (r : ℕ) → r < rows .0 → length mat ≡ 0 → +0 ≡ colSum (flipped (entry (General rows cols) mat)) (cols .0) r
+  unfolding entry
+  row-sum-none r h e = rw (no-columns r h e) (sym (sum-none +0 (λ c. magnitude (entry (General rows cols) mat r c))))
+
 -- a packed matrix is symmetric
 pub place-mirrored : (rows : Rows) (r c : ℕ) → place (SymPack rows) c r ≡ place (SymPack rows) r c
 unfolding place
@@ -68,6 +115,17 @@ place-mirrored rows r c = go (ltb r c) (ltb c r) refl refl
     go false false p q =
         let e : r ≡ c = omega (arith, ltb-false r c p, ltb-false c r q) in
         rw e
+
+-- on and above the diagonal
+pub packed-entry : (rows : Rows) (mat : List Float) (r c : ℕ) → r ≤ c → entry (SymPack rows) mat r c ≡ at mat (triangle c + r)
+unfolding entry
+packed-entry rows mat r c h = ap (at mat) (go (ltb r c) refl)
+  where
+    go : (b : Bool) → ltb r c ≡ b → cond b (triangle c + r) (triangle r + c) ≡ triangle c + r
+    go true e = refl
+    go false e =
+        let same : r ≡ c = omega (arith, ltb-false r c e) in
+        rw same
 
 -- ---- a packed matrix turned over is the same
 

@@ -5,7 +5,7 @@ use mathlib.Core.Logic.{_↔_}
 use mathlib.Core.Bool.{Bool, true, false, _&&_, _||_}
 use mathlib.Core.List.{List, [], _∷_}
 use lib.Ieee.{Float, lt, le}
-use lib.ListN.{length, take}
+use lib.ListN.{length, take, drop}
 use Rattle.rules.specs.declared.Answer.{Answer}
 use Rattle.rules.specs.declared.Cone.{Cone}
 use Rattle.rules.specs.declared.Cone.the-variants.{Zero, RPos, SOC, RotSOC, PSD}
@@ -110,3 +110,10 @@ pub record OldContentsChangeNothing (p : Problem) (work cone work' cone' : List 
   pub answer : solved p work cone .answer ≡ solved p work' cone' .answer
   pub work-required : take (workLength (p .m) (p .n)) (solved p work cone .work) ≡ take (workLength (p .m) (p .n)) (solved p work' cone' .work)
   pub cone-required : take (coneWork (blocks p)) (solved p work cone .cone) ≡ take (coneWork (blocks p)) (solved p work' cone' .cone)
+
+-- "places beyond it are never changed": of both buffers, with any contents and on refusal too
+pub record PlacesBeyondKept (p : Problem) (work cone : List Float) : Type 0 where
+  pub work-length : length (solved p work cone .work) ≡ length work
+  pub cone-length : length (solved p work cone .cone) ≡ length cone
+  pub work-beyond : drop (workLength (p .m) (p .n)) (solved p work cone .work) ≡ drop (workLength (p .m) (p .n)) work
+  pub cone-beyond : drop (coneWork (blocks p)) (solved p work cone .cone) ≡ drop (coneWork (blocks p)) cone

@@ -1,6 +1,7 @@
 -- Document 01, "When the hub is turned away": "Tests run in this order; the first that applies answers, and none is given otherwise. k = q = 0, and both
 -- buffers keep their contents."
 use Prim.Native.Nat.{ℕ, zero, suc, _+_}
+use mathlib.Core.Path.{_≡_}
 use mathlib.Core.Bool.{Bool, true, false, not, cond, _&&_, _||_}
 use mathlib.Core.List.{List, [], _∷_}
 use lib.Dec.{leb, ltb, eqb}
@@ -119,3 +120,9 @@ solved p work cone =
     let q = readProblem p in
     let ran = leftBy q work cone (run q) in
     leftAfter (refusal p (length work) (length cone)) ran work cone
+
+-- The solver's complete outcome: it answers by the rule, and both buffers hold what the rule says, place by place, on refusal too.
+pub record SolveOutcome (p : Problem) (work cone : List Float) (answer : Answer) (work' cone' : List Float) : Type 0 where
+  pub answered : answer ≡ solved p work cone .answer
+  pub work-left : work' ≡ solved p work cone .work
+  pub cone-left : cone' ≡ solved p work cone .cone

@@ -1,6 +1,6 @@
 -- `linalg::add` meets its contract.
 use Prim.Native.Nat.{_-_}
-use mathlib.Core.Path.{_≡_, refl}
+use mathlib.Core.Path.{_≡_, refl, sym}
 use lib.ListN.{length}
 use borrow.Author.Tests.{eq-eqb, ne-eqb}
 use Rattle.rules.proofs.Outcome.{refused, done}
@@ -18,7 +18,7 @@ abbrev μ-loop : tie.MeasureT-loop
 μ-loop alpha x y₀ i₀ i-end y i = length x - i
 
 returns : tie.Need-returns Inv-loop μ-loop
-returns c = refused (ne-eqb _ _ (c .if1 .taken))
+returns c = refused (ne-eqb _ _ (λ e. c .if1 .taken (sym e)))
 
 loop-holds : tie.Need-loop-holds Inv-loop μ-loop
 loop-holds c = (reached-none _ _, search needs, refl)

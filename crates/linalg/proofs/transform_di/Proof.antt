@@ -1,6 +1,6 @@
 -- `linalg::transform_di` meets its contract.
 use Prim.Native.Nat.{_-_}
-use mathlib.Core.Path.{_≡_, refl}
+use mathlib.Core.Path.{_≡_, refl, sym, _∙_}
 use lib.ListN.{length}
 use borrow.Author.Needs.{needs}
 use borrow.Author.Tests.{eq-eqb, ne-eqb}
@@ -21,7 +21,7 @@ returns : tie.Need-returns Inv-loop μ-loop
 returns c = refused (rw (ne-eqb _ _ (c .if1 .taken)))
 
 returns-2 : tie.Need-returns-2 Inv-loop μ-loop
-returns-2 c = refused (rw (eq-eqb _ _ (c .before .if1 .left)) (ne-eqb _ _ (c .if2 .taken)))
+returns-2 c = refused (rw (eq-eqb _ _ (c .before .if1 .left)) (ne-eqb _ _ (λ e. c .if2 .taken (c .before .if1 .left ∙ sym e))))
 
 loop-holds : tie.Need-loop-holds Inv-loop μ-loop
 loop-holds c = (reached-none _ _, search needs, search needs, refl)

@@ -12,11 +12,11 @@ sub-y c = search needs
 float-from-bits-y : tie.Need-float-from-bits-y
 float-from-bits-y c = no-nan-pattern (6910469410427058089 - c .args .b / 2) (omega arith)
 
-cut-requires : tie.Need-cut-requires
-cut-requires c κs = search needs
+mended-requires : tie.Need-mended-requires
+mended-requires c κs = search needs
 
 returns : tie.Need-returns
 returns c = search needs
 
 pub guess-spec : {M : Type 1} → statement M
-guess-spec = tie.close (tie.spec sub-y float-from-bits-y cut-requires returns)
+guess-spec = tie.close (tie.spec sub-y float-from-bits-y mended-requires returns)

@@ -1,7 +1,6 @@
 -- `linalg::matrix::stored_length` meets its contract: sizes within the limits can be multiplied.
 use Prim.Native.Nat.{_+_}
 use native.Mathlib.Omega.{arith}
-use mathlib.Core.Path.{_≡_}
 use borrow.Author.Needs.{needs}
 use Rattle.rules.proofs.Matrices.{product-small}
 use Rattle.linalg.proofs.matrix.stored_length.Statement.{statement}

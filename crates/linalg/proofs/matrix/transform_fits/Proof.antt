@@ -1,5 +1,5 @@
 -- `linalg::matrix::transform_fits` meets its contract.
-use mathlib.Core.Path.{_≡_, sym, _∙_}
+use mathlib.Core.Path.{sym, _∙_}
 use borrow.Author.Needs.{needs}
 use borrow.Author.Tests.{eq-eqb, ne-eqb, not-true, not-false}
 use Rattle.linalg.proofs.matrix.transform_fits.Statement.{statement}

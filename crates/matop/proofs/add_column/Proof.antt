@@ -1,0 +1,137 @@
+-- `matop::add_column` meets its contract.
+use Prim.Native.Nat.{_+_, _-_, _≤_, _<_, suc}
+use mathlib.Core.Path.{_≡_, _∙_}
+use lib.ListN.{length, length-set}
+use borrow.Author.Needs.{needs}
+use Rattle.rules.specs.Helpers.{magnitude}
+use Rattle.rules.specs.Arithmetic.{_+ᶠ_, at}
+use Rattle.rules.specs.Matrices.{triangle}
+use Rattle.rules.proofs.Arithmetic.{Reached, reached-none, reached-more}
+use Rattle.rules.proofs.Vectors.{abssum-of-part}
+use Rattle.matop.proofs.Packed.{column-added}
+use Rattle.matop.proofs.add_column.Statement.{statement}
+use Rattle.matop.proofs.add_column.Tie as tie
+
+abbrev Inv-loop : tie.InvT-loop
+Inv-loop mat c y₀ start end i₀ y i = Reached (λ k v. v +ᶠ magnitude (at mat (start + k))) i y₀ y × (i ≤ c) × (c < length y₀) × (start + (c + 1) ≤ length mat)
+
+abbrev μ-loop : tie.MeasureT-loop
+μ-loop mat c y₀ start end i₀ y i = c - i
+
+add-start : tie.Need-add-start Inv-loop μ-loop
+add-start c = search needs
+
+mul-start : tie.Need-mul-start Inv-loop μ-loop
+mul-start c = search needs
+
+add-end : tie.Need-add-end Inv-loop μ-loop
+add-end c = search needs
+
+add-end-2 : tie.Need-add-end-2 Inv-loop μ-loop
+add-end-2 c = search needs
+
+mul-abssum : tie.Need-mul-abssum Inv-loop μ-loop
+mul-abssum c = search needs
+
+sub-abssum : tie.Need-sub-abssum Inv-loop μ-loop
+sub-abssum c = search needs
+
+part-abssum-start : tie.Need-part-abssum-start Inv-loop μ-loop
+part-abssum-start c = search needs
+
+part-abssum-end : tie.Need-part-abssum-end Inv-loop μ-loop
+part-abssum-end c = search needs
+
+abssum-requires : tie.Need-abssum-requires Inv-loop μ-loop
+abssum-requires c κs = search needs
+
+mul-y : tie.Need-mul-y Inv-loop μ-loop
+mul-y c = search needs
+
+slice-read-y : tie.Need-slice-read-y Inv-loop μ-loop
+slice-read-y c = search needs
+
+mul-y-2 : tie.Need-mul-y-2 Inv-loop μ-loop
+mul-y-2 c = search needs
+
+slice-write-y : tie.Need-slice-write-y Inv-loop μ-loop
+slice-write-y c = search needs
+
+loop-holds : tie.Need-loop-holds Inv-loop μ-loop
+loop-holds c = (reached-none _ _, search needs, simp length-set (search needs), search needs)
+
+mul-y-3 : tie.Need-mul-y-3 Inv-loop μ-loop
+mul-y-3 c = search needs
+
+slice-read-y-2 : tie.Need-slice-read-y-2 Inv-loop μ-loop
+slice-read-y-2 c = search needs
+
+add-magnitude : tie.Need-add-magnitude Inv-loop μ-loop
+add-magnitude c = search needs
+
+mul-magnitude : tie.Need-mul-magnitude Inv-loop μ-loop
+mul-magnitude c = search needs
+
+shared-slice-read-magnitude : tie.Need-shared-slice-read-magnitude Inv-loop μ-loop
+shared-slice-read-magnitude c = search needs
+
+magnitude-requires : tie.Need-magnitude-requires Inv-loop μ-loop
+magnitude-requires c κs = search needs
+
+mul-y-4 : tie.Need-mul-y-4 Inv-loop μ-loop
+mul-y-4 c = search needs
+
+slice-write-y-2 : tie.Need-slice-write-y-2 Inv-loop μ-loop
+slice-write-y-2 c = search needs
+
+add-i : tie.Need-add-i Inv-loop μ-loop
+add-i c = search needs
+
+loop-less : tie.Need-loop-less Inv-loop μ-loop
+loop-less c = search needs
+
+loop-again : tie.Need-loop-again Inv-loop μ-loop
+loop-again c = (rw (c .magnitude .ensures) (reached-more (c .before .before .before .before .loop .inv .0) (search needs)), search needs, search needs, search needs)
+
+same-length : tie.Need-same-length Inv-loop μ-loop
+same-length c = c .before .loop .inv .0 .same ∙ simp length-set
+
+returns : tie.Need-returns Inv-loop μ-loop
+returns c = let b = c .before .before .before .before .before .before .before in
+    let i = c .before .loop .inv in
+    let all : c .before .loop .i ≡ b .args .c = search needs in
+    column-added _ _ _ _ _ (search needs) (c .before .before .before .abssum .ensures ∙ abssum-of-part (b .args .mat .now) (triangle (b .args .c)) (triangle (b .args .c) + b .args .c + 1) (suc (b .args .c)) (search needs) (search needs)) (rw all at (i .0 .is))
+
+pub add-column-spec : {M : Type 1} → statement M
+add-column-spec =
+    tie.close
+    (tie.spec
+    Inv-loop
+    μ-loop
+    add-start
+    mul-start
+    add-end
+    add-end-2
+    mul-abssum
+    sub-abssum
+    part-abssum-start
+    part-abssum-end
+    abssum-requires
+    mul-y
+    slice-read-y
+    mul-y-2
+    slice-write-y
+    loop-holds
+    mul-y-3
+    slice-read-y-2
+    add-magnitude
+    mul-magnitude
+    shared-slice-read-magnitude
+    magnitude-requires
+    mul-y-4
+    slice-write-y-2
+    add-i
+    loop-less
+    loop-again
+    same-length
+    returns)

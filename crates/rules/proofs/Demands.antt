@@ -1,0 +1,64 @@
+-- The owner's demands hold of the rules: each statement of `specs/Demands.antt`, with its proof's place.
+use Prim.Native.Nat.{ℕ}
+use mathlib.Core.Path.{_≡_}
+use mathlib.Core.List.{List}
+use lib.Ieee.{Float}
+use lib.ListN.{length}
+use Rattle.rules.specs.declared.Answer.{Answer}
+use Rattle.rules.specs.Product.{Failure}
+use Rattle.rules.specs.Problem.{Problem}
+use Rattle.rules.specs.Criteria.{Criteria}
+use Rattle.rules.specs.Run.{Ended, run, leftBy}
+use Rattle.rules.specs.Refusals.{accepted, refusal, readProblem, solved, SolveOutcome}
+use Rattle.rules.specs.Demands.{TurnedAwayExactly, EndsFirst, GoesOnExactly, ConvergedExactly, RotationsBounded, OldContentsChangeNothing, PlacesBeyondKept}
+use Rattle.rules.proofs.Refusals as Refusals
+use Rattle.rules.proofs.Run as Run
+use Rattle.rules.proofs.Converged as Converged
+use Rattle.rules.proofs.Rotations as Rotations
+use Rattle.rules.proofs.OldContents as OldContents
+
+-- ---- demand 1
+
+-- "A refusal has its number, is given exactly when its fact is the first in document 01 to hold, and changes no buffer."
+pub turned-away-exactly : (p : Problem) (work cone : List Float) → TurnedAwayExactly p work cone
+turned-away-exactly = Refusals.turned-away-exactly
+
+-- Where none holds, the run of the problem as read is what the solver leaves: the theorems below are about that run.
+pub accepted-runs : (p : Problem) (work cone : List Float) → refusal p (length work) (length cone) ≡ accepted → solved p work cone ≡ leftBy (readProblem p) work cone (run (readProblem p))
+accepted-runs = OldContents.solved-accepted
+
+-- ---- the solver's outcome
+
+-- "That any pair of outcomes allowed by it coincide is itself proved"
+pub any-two-outcomes-coincide : {p : Problem} {work cone : List Float} {a a' : Answer} {w w' k k' : List Float} → SolveOutcome p work cone a w k → SolveOutcome p work cone a' w' k' → (a ≡ a') × (w ≡ w') × (k ≡ k')
+any-two-outcomes-coincide s t = Refusals.any-two-outcomes-coincide s t
+
+-- "places beyond it are never changed"
+pub places-beyond-kept : (p : Problem) (work cone : List Float) → PlacesBeyondKept p work cone
+places-beyond-kept = OldContents.places-beyond-kept
+
+-- ---- demand 3, for the problem as the run reads it
+
+-- "k is the first step where a cone fails, an ending test holds or the allowance is met, never above max(max_iter, 1)."
+pub ends-first : (p : Problem) → EndsFirst p (run p)
+ends-first = Run.ends-first
+
+-- no other ending, count or state is allowed by that
+pub ends-first-once : {p : Problem} {d e : Ended} → EndsFirst p d → EndsFirst p e → d ≡ e
+ends-first-once f g = Run.ends-first-once f g
+
+-- a cone fails, an ending test holds or the allowance is met: otherwise it goes on
+pub goes-on-exactly : (p : Problem) (k : ℕ) (failure : Failure) (criteria : Criteria) → GoesOnExactly p k failure criteria
+goes-on-exactly = Run.goes-on-exactly
+
+-- "Converged is answered exactly when at step k no cone failed, tau > eps_zero and all three criteria are at most eps_acc."
+pub converged-exactly : (p : Problem) → ConvergedExactly p (run p)
+converged-exactly = Converged.converged-exactly
+
+-- "at most k × sweep limit × the sum of d(d−1) over semidefinite blocks of order d"
+pub rotations-bounded : (p : Problem) → RotationsBounded p (run p)
+rotations-bounded = Rotations.run-bounded
+
+-- "What the buffers held before changes none of it"
+pub old-contents-change-nothing : (p : Problem) (work cone work' cone' : List Float) → refusal p (length work) (length cone) ≡ accepted → refusal p (length work') (length cone') ≡ accepted → OldContentsChangeNothing p work cone work' cone'
+old-contents-change-nothing = OldContents.old-contents-change-nothing

@@ -1,3 +1,5 @@
 // The solver.
+mod criteria;
 mod embed;
 mod prepare;
+mod update;

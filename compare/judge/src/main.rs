@@ -1,4 +1,4 @@
-//! judge lists SEED FOLDER     writes the fixed lists
+//! judge lists SEED CRATES     writes the fixed lists into the folder of crates
 //! judge solve                 answers the problem on standard input
 //! judge survey SEED COUNT     draws problems and counts their endings
 
@@ -22,8 +22,8 @@ fn main() -> ExitCode {
 
 fn run(arguments: &[&str]) -> Result<(), String> {
     match arguments {
-        ["lists", seed, folder] => {
-            lists::make(number(seed)?, Path::new(folder)).map_err(|e| e.to_string())
+        ["lists", seed, crates] => {
+            lists::make(number(seed)?, Path::new(crates)).map_err(|e| e.to_string())
         }
         ["solve"] => {
             let problem = text::read(&read_to_string(stdin()).map_err(|e| e.to_string())?)?;
@@ -34,7 +34,7 @@ fn run(arguments: &[&str]) -> Result<(), String> {
             survey::survey(number(seed)?, number(count)? as usize);
             Ok(())
         }
-        _ => Err("lists SEED FOLDER | solve | survey SEED COUNT".into()),
+        _ => Err("lists SEED CRATES | solve | survey SEED COUNT".into()),
     }
 }
 

@@ -1,25 +1,11 @@
-// A stand-in.
-use rules::Product;
-use rules::SolverParam;
+// The cone list and the projections onto its cones.
+mod block;
+mod product;
+mod words;
 
-pub fn product_proj(
-    par: SolverParam,
-    dual: bool,
-    words: &[u16],
-    x: &mut [f64],
-    work: &mut [f64],
-) -> Product {
-    Product::No
-}
-
-pub fn product_group(words: &[u16], xs: &mut [f64]) -> bool {
-    false
-}
-
-pub fn is_bad_cone(words: &[u16], places: usize) -> bool {
-    false
-}
-
-pub fn cone_work_len(words: &[u16]) -> usize {
-    0
-}
+pub use block::proj;
+pub use product::product_group;
+pub use product::product_proj;
+pub use words::cone_work_len;
+pub use words::is_bad_cone;
+pub use words::read_word;

@@ -167,20 +167,14 @@ pub fn transform_ge(
 ) -> bool
     ensures { λ r. ⌜ Outcome (transformFits transpose (General rows cols) (now (mat .entry)) (now (x .entry)) (now (y .entry))) (transformed alpha (entries transpose (General rows cols) (now (mat .entry))) (now (x .entry)) beta (now (y .entry))) (now (y .entry)) r (now (y .exit)) ⌝ }
 {
-    transform(
-        transpose,
-        MatType::General(rows, cols),
-        alpha,
-        mat,
-        x,
-        beta,
-        y,
-    )
+    let t = MatType::General(rows, cols);
+    transform(transpose, t, alpha, mat, x, beta, y)
 }
 
 // The product with a symmetric matrix, packed.
 pub fn transform_sp(n: Rows, alpha: f64, mat: &[f64], x: &[f64], beta: f64, y: &mut [f64]) -> bool
     ensures { λ r. ⌜ Outcome (transformFits false (SymPack n) (now (mat .entry)) (now (x .entry)) (now (y .entry))) (transformed alpha (entry (SymPack n) (now (mat .entry))) (now (x .entry)) beta (now (y .entry))) (now (y .entry)) r (now (y .exit)) ⌝ }
 {
-    transform(false, MatType::SymPack(n), alpha, mat, x, beta, y)
+    let t = MatType::SymPack(n);
+    transform(false, t, alpha, mat, x, beta, y)
 }

@@ -17,4 +17,7 @@ pub mod Demands
 pub mod Outcome
 pub mod Vectors
 pub mod Matrices
+pub mod Blocks
+pub mod Projections
+pub mod ConeProduct
 pub mod WorkedByHand

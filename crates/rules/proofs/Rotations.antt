@@ -38,14 +38,19 @@ psd-rotations par d x work = go (swept par d x .succeeded) refl
     go true e = rw e
     go false e = rw e
 
-block-bounded : (par : SolverParam) (dual : Bool) (b : Cone) (x work : List Float) → 2 * projBlock par dual b x work .rotations ≤ par .«sweep_limit» * pairsTwice b
+-- "at most sweeps × d(d−1)/2"
+pub projection-bounded : (par : SolverParam) (d : ℕ) (x work : List Float) → projPSD par d x work .rotations ≤ par .«sweep_limit» * (d * (d - 1) / 2)
+projection-bounded par d x work =
+    omega (arith, psd-rotations par d x work, rotations-bounded d (par .«eps_zero» *ᶠ par .«eps_zero») (par .«sweep_limit») (record { matrix = diagonalTimes √2 d x; vectors = unit d; rotations = 0 }))
+
+pub block-bounded : (par : SolverParam) (dual : Bool) (b : Cone) (x work : List Float) → 2 * projBlock par dual b x work .rotations ≤ par .«sweep_limit» * pairsTwice b
 unfolding projBlock
 block-bounded par dual (Zero size) x work = omega arith
 block-bounded par dual (RPos size) x work = omega arith
 block-bounded par dual (SOC size) x work = omega arith
 block-bounded par dual (RotSOC size) x work = omega arith
 block-bounded par dual (PSD d) x work =
-    omega (arith, psd-rotations par d x work, half-pairs (par .«sweep_limit») (d * (d - 1)), rotations-bounded d (par .«eps_zero» *ᶠ par .«eps_zero») (par .«sweep_limit») (record { matrix = diagonalTimes √2 d x; vectors = unit d; rotations = 0 }))
+    omega (arith, projection-bounded par d x work, half-pairs (par .«sweep_limit») (d * (d - 1)))
 
 -- ---- a pass over all blocks
 

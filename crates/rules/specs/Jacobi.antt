@@ -1,10 +1,9 @@
 -- Document 01, "Port order", 5: Jacobi's method, jacobi_eig of floatgeneric.rs. The matrix is a packed upper triangle; the vectors are n columns of n.
-use Prim.Native.Nat.{ℕ, zero, suc, _+_, _-_, _*_}
-use mathlib.Core.Bool.{Bool, true, false, cond, _&&_, _||_}
+use Prim.Native.Nat.{ℕ, zero, suc, _+_, _-_}
+use mathlib.Core.Bool.{Bool, true, false, cond, _&&_}
 use mathlib.Core.List.{List}
 use lib.Dec.{eqb, ltb}
 use lib.Ieee.{Float, binary64, lt, neg, add, sub, mul, div}
-use Rattle.rules.specs.declared.MatType.{MatType}
 use Rattle.rules.specs.declared.MatType.the-variants.{General, SymPack}
 use Rattle.rules.specs.Helpers.{one, reciprocal}
 use Rattle.rules.specs.Root.{root}

@@ -16,3 +16,7 @@ mostSteps = 1000000
 -- "Sweep limit: 1 to 64"
 abbrev pub mostSweeps : ℕ
 mostSweeps = 64
+
+-- No limit of document 01, and beyond every machine: so few places that the rotations of a list of blocks, at most 64 a place, fit 64 bits.
+abbrev pub mostPlaces : ℕ
+mostPlaces = 288230376151711743

@@ -11,7 +11,7 @@ use Rattle.rules.specs.declared.Cone.the-variants.{Zero, RPos, SOC, RotS
 use Rattle.rules.specs.declared.Product.{Product}
 use Rattle.rules.specs.declared.Product.the-variants.{Done, Failed, No}
 use Rattle.rules.specs.declared.SolverParam.{SolverParam}
-use Rattle.rules.specs.Limits.{limit}
+use Rattle.rules.specs.Limits.{limit, mostPlaces}
 use Rattle.rules.specs.Helpers.{smaller}
 use Rattle.rules.specs.Arithmetic.{at, each}
 use Rattle.rules.specs.Blocks.{places, blocksOf, isBadCone}
@@ -61,12 +61,16 @@ unfoldable pub grouped : List Float → List Float
 unfolding each smallestTo
 grouped xs = each (λ k v. smallestTo (length xs) (at xs 0) xs) xs
 
+-- "kinds 2, 3, 4"
+abbrev pub isGrouped : Cone → Bool
+isGrouped (Zero size) = false
+isGrouped (RPos size) = false
+isGrouped (SOC size) = true
+isGrouped (RotSOC size) = true
+isGrouped (PSD order) = true
+
 abbrev pub groupBlock : Cone → List Float → List Float
-groupBlock (Zero size) xs = xs
-groupBlock (RPos size) xs = xs
-groupBlock (SOC size) xs = grouped xs
-groupBlock (RotSOC size) xs = grouped xs
-groupBlock (PSD order) xs = grouped xs
+groupBlock b xs = cond (isGrouped b) (grouped xs) xs
 
 unfoldable pub groupAll : List Cone → List Float → List Float
 unfolding grouped
@@ -85,11 +89,17 @@ blocksWithin [] = true
 blocksWithin (b ∷ blocks) = leb (places b) limit && blocksWithin blocks
 
 -- a list that is no BadCone for that many places, with no block above the limit
+abbrev pub sumsFit : List ℕ → ℕ → Bool
+sumsFit words len = not (isBadCone words len) && blocksWithin (blocksOf words)
+
 abbrev pub listFits : List ℕ → List Float → Bool
-listFits words x = not (isBadCone words (length x)) && blocksWithin (blocksOf words)
+listFits words x = sumsFit words (length x)
+
+abbrev pub lengthsFit : SolverParam → List ℕ → ℕ → ℕ → Bool
+lengthsFit par words len work = sumsFit words len && leb (coneWork (blocksOf words)) work && leb len mostPlaces && sweepsFit par
 
 abbrev pub productFits : SolverParam → List ℕ → List Float → List Float → Bool
-productFits par words x work = listFits words x && leb (coneWork (blocksOf words)) (length work) && sweepsFit par
+productFits par words x work = lengthsFit par words (length x) (length work)
 
 abbrev pub productAnswer : ℕ → Failure → Product
 productAnswer rotations none = Done rotations

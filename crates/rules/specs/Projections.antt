@@ -125,8 +125,12 @@ blockWork (SOC size) = 0
 blockWork (RotSOC size) = 0
 blockWork (PSD order) = order + order * order
 
+-- a block within the limit, for that many places and that much cone work
+abbrev pub sizesFit : SolverParam → Cone → ℕ → ℕ → Bool
+sizesFit par b size work = leb (places b) limit && eqb size (places b) && leb (blockWork b) work && sweepsFit par
+
 abbrev pub blockFits : SolverParam → Cone → List Float → List Float → Bool
-blockFits par b x work = leb (places b) limit && eqb (length x) (places b) && leb (blockWork b) (length work) && sweepsFit par
+blockFits par b x work = sizesFit par b (length x) (length work)
 
 abbrev pub answerOf : Projected → Projection
 answerOf p = cond (p .succeeded) (Done (p .rotations)) (Failed (p .rotations))

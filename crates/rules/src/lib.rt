@@ -45,6 +45,9 @@ pub const MOST_STEPS: u64 = 1000000;
 
 pub const WORDS: usize = 32;
 
+// The most places of a list of blocks: their rotations, at most SWEEPS a place, then fit 64 bits.
+pub const PLACES: usize = 288230376151711743;
+
 // The parameters of a run.
 pub struct SolverParam {
     pub max_iter: u64,

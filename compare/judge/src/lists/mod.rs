@@ -5,8 +5,9 @@ pub mod roots;
 
 use std::path::Path;
 
-/// Writes every list into `folder` and prints what each holds.
-pub fn make(seed: u64, folder: &Path) -> std::io::Result<()> {
-    roots::make(seed, &folder.join("roots.bin"))?;
-    kernels::make(seed, &folder.join("kernels.bin"))
+/// Writes every list as the standard input of the program that replays it, a crate in `crates`, and
+/// prints what each holds.
+pub fn make(seed: u64, crates: &Path) -> std::io::Result<()> {
+    roots::make(seed, &crates.join("replay_roots/stdin"))?;
+    kernels::make(seed, &crates.join("replay_kernels/stdin"))
 }

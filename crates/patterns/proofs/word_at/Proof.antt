@@ -27,13 +27,13 @@ unfolding spelled
 loop-holds c = (refl, omega arith, omega arith)
 
 mul-word : tie.Need-mul-word Inv-loop μ-loop
-mul-word c = omega (arith, room (c .before .loop .word) (c .before .loop .k) (c .before .loop .inv .1) (c .loop-test .taken))
+mul-word c = omega (arith, room (c .before .loop .word) (c .before .loop .k) (c .before .loop .inv .1) (omega arith))
 
 byte-at-requires : tie.Need-byte-at-requires Inv-loop μ-loop
 byte-at-requires c κs = search needs
 
 add-word : tie.Need-add-word Inv-loop μ-loop
-add-word c = omega (arith, room (c .before .before .loop .word) (c .before .before .loop .k) (c .before .before .loop .inv .1) (c .before .loop-test .taken))
+add-word c = omega (arith, room (c .before .before .loop .word) (c .before .before .loop .k) (c .before .before .loop .inv .1) (omega arith))
 
 add-k : tie.Need-add-k Inv-loop μ-loop
 add-k c = search needs

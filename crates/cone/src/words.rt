@@ -1,0 +1,108 @@
+// The reader of the cone list: the only place that knows words. Everything else is over the blocks.
+use rules::Cone;
+use rules::Word;
+ghost use Prim.Native.Nat.{_≤_};
+ghost use mathlib.Core.Path.{_≡_};
+ghost use Rattle.rules.specs.Blocks.{orderOf, readWord, blocksOf, isBadCone, places};
+ghost use Rattle.rules.specs.Projections.{blockWork};
+ghost use Rattle.rules.specs.Product.{coneWork};
+
+// The largest order whose triangle has at most that many places, of those that a word can say.
+fn order_of(size: usize) -> usize
+    ensures { λ r. ⌜ r ≡ orderOf size ⌝ }
+{
+    let mut order: usize = 127;
+    while 0 < order {
+        if order * (order + 1) / 2 <= size {
+            return order;
+        }
+        order = order - 1;
+    }
+    0
+}
+
+// What a cone word says: 3 bits of kind, then 13 bits of size.
+pub fn read_word(word: u16) -> Word
+    ensures { λ r. ⌜ r ≡ readWord word ⌝ }
+{
+    let size = (word % 8192) as usize;
+    match word / 8192 {
+        0 => Word::Block(Cone::Zero(size)),
+        1 => Word::Block(Cone::RPos(size)),
+        2 => Word::Block(Cone::SOC(size)),
+        3 => Word::Block(Cone::RotSOC(size)),
+        4 => {
+            let order = order_of(size);
+            if order * (order + 1) / 2 == size {
+                Word::Block(Cone::PSD(order))
+            } else {
+                Word::Bad
+            }
+        }
+        _ => Word::Bad,
+    }
+}
+
+// How many places a block has. No word says more than 8191.
+pub(crate) fn places_of(cone: Cone) -> usize
+    requires { ⌜ places cone ≤ 8191 ⌝ }
+    ensures { λ r. ⌜ r ≡ places cone ⌝ }
+{
+    match cone {
+        Cone::Zero(size) => size,
+        Cone::RPos(size) => size,
+        Cone::SOC(size) => size,
+        Cone::RotSOC(size) => size,
+        Cone::PSD(order) => order * (order + 1) / 2,
+    }
+}
+
+// How much cone work a block needs.
+pub(crate) fn block_work(cone: Cone) -> usize
+    requires { ⌜ places cone ≤ 8191 ⌝ }
+    ensures { λ r. ⌜ r ≡ blockWork cone ⌝ }
+{
+    match cone {
+        Cone::Zero(_) => 0,
+        Cone::RPos(_) => 0,
+        Cone::SOC(_) => 0,
+        Cone::RotSOC(_) => 0,
+        Cone::PSD(order) => order + order * order,
+    }
+}
+
+// Whether a list has a word that is bad, or blocks that don't add up to that many places.
+pub fn is_bad_cone(words: &[u16], places: usize) -> bool
+    ensures { λ r. ⌜ r ≡ isBadCone (now (words .entry)) places ⌝ }
+{
+    let mut left = places;
+    for i in 0..words.len() {
+        match read_word(words[i]) {
+            Word::Bad => return true,
+            Word::Block(block) => {
+                let size = places_of(block);
+                if left < size {
+                    return true;
+                }
+                left = left - size;
+            }
+        }
+    }
+    left != 0
+}
+
+// How much cone work the blocks of a list need: as much as the one that needs most.
+pub fn cone_work_len(words: &[u16]) -> usize
+    ensures { λ r. ⌜ r ≡ coneWork (blocksOf (now (words .entry))) ⌝ }
+{
+    let mut most: usize = 0;
+    for i in 0..words.len() {
+        if let Word::Block(block) = read_word(words[i]) {
+            let len = block_work(block);
+            if most < len {
+                most = len;
+            }
+        }
+    }
+    most
+}

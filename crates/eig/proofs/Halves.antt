@@ -1,0 +1,220 @@
+-- The two halves of the projection, over the parts of cone work, and the whole.
+use Prim.Native.Nat.{ℕ, zero, suc, _+_, _-_, _*_, _<_, _≤_}
+use native.Mathlib.Omega.{arith}
+use mathlib.Core.Path.{_≡_, refl, sym, _∙_, ap}
+use mathlib.Core.Bool.{Bool, true, false, cond, _&&_, false≢true}
+use mathlib.Core.List.{List, _++_, append-assoc}
+use borrow.Author.Tests.{leb-true, eqb-true}
+use borrow.Rule.Slice.PartMut.{putMid, postOf, post-is, take-put, drop-put}
+use lib.Dec.{leb, eqb}
+use lib.Ieee.{Float, binary64, ofBits, nan, lt}
+use lib.ListN.{length, take, drop, List·getD-append}
+use lib.Seq.{take-at, drop-at, length-take-le}
+use Rattle.rules.specs.Limits.{limit, mostSweeps}
+use Rattle.rules.specs.Helpers.{reciprocal}
+use Rattle.rules.specs.Arithmetic.{_+ᶠ_, _*ᶠ_, +0, at, tabulate}
+use Rattle.rules.specs.Matrices.{triangle}
+use Rattle.rules.specs.Jacobi.{Turning, Swept, packed, inSquare, sweeps}
+use Rattle.rules.specs.Projections.{√2, diagonalTimes, unit, rebuiltEntry, projPSD, Projected, sweepsFit, blockFits, answerOf, BlockOutcome}
+use Rattle.rules.specs.declared.Cone.the-variants.{PSD}
+use Rattle.rules.specs.declared.Projection.{Projection}
+use Rattle.rules.specs.declared.Projection.the-variants.{Done, Failed, No}
+use Rattle.rules.specs.declared.SolverParam.{SolverParam}
+use Rattle.rules.proofs.Columns.{by-less, tabulate-length, tabulate-at, packed-same, square-length, square-inside, inSquare-place}
+use Rattle.eig.specs.Sizes.{IsPacked}
+use Rattle.eig.specs.Turns.{state, swept, sweptBlock, SweptBlock, RebuiltBlock, valueOf}
+use Rattle.eig.proofs.Small.{triangle-large}
+use Rattle.eig.proofs.Literals.{√2-is}
+
+unit-length : (n : ℕ) → length (unit n) ≡ n * n
+unfolding unit
+unit-length n = square-length n _
+
+-- ---- a part of cone work, lent twice
+
+module _ (n m : ℕ) (work a : List Float) (room : n + m ≤ length work) (same : length a ≡ m) where
+  lent-again : take (n + m - n) (drop n (putMid n (n + m - n) work a)) ≡ a
+  lent-again =
+      ap (λ (l : List Float). take (n + m - n) l) (drop-at (take n work) (a ++ postOf n (n + m - n) work) n (length-take-le n work (omega arith)))
+      ∙ take-at a (postOf n (n + m - n) work) (n + m - n) (omega arith)
+
+  put-again : (b : List Float) → putMid n (n + m - n) (putMid n (n + m - n) work a) b ≡ take n work ++ b ++ drop (n + m) work
+  put-again b =
+      ap (λ (l : List Float). l ++ (b ++ postOf n (n + m - n) (putMid n (n + m - n) work a))) (take-put n (n + m - n) work a (omega arith))
+      ∙ ap (λ (l : List Float). take n work ++ (b ++ l)) (post-is n (n + m) (putMid n (n + m - n) work a) (omega arith) ∙ drop-put n (n + m) work a (omega arith) room (omega arith))
+      ∙ sym (append-assoc (take n work) b (drop (n + m) work))
+
+pub swept-block : (n : ℕ) (tol : Float) (most : ℕ) (x work x₁ z₁ x' z' : List Float) (rotations : ℕ) (succeeded : Bool) → n + n * n ≤ length work → x₁ ≡ diagonalTimes (ofBits binary64 0x3ff6_a09e_667f_3bcd) n x → z₁ ≡ unit n → swept (state x' z' rotations) succeeded ≡ sweeps n tol most (state x₁ (take (n + n * n - n) (drop n (putMid n (n + n * n - n) work z₁))) 0) → length z' ≡ length (take (n + n * n - n) (drop n (putMid n (n + n * n - n) work z₁))) → SweptBlock n (sweptBlock n tol most x) work rotations succeeded x' (putMid n (n + n * n - n) (putMid n (n + n * n - n) work z₁) z')
+swept-block n tol most x work x₁ z₁ x' z' rotations succeeded room is-x is-z is-swept kept =
+    record {
+      block = ap (λ (s : Swept). s .turning .matrix) whole;
+      cone-work = put-again n (n * n) work z₁ room many z' ∙ ap (λ (l : List Float). take n work ++ l ++ drop (n + n * n) work) vectors;
+      count = ap (λ (s : Swept). s .turning .rotations) whole;
+      ended = ap (λ (s : Swept). s .succeeded) whole;
+      stored = ap length (sym vectors) ∙ kept ∙ ap length (lent-again n (n * n) work z₁ room many) ∙ many;
+    }
+  where
+    many : length z₁ ≡ n * n
+    many = ap length is-z ∙ unit-length n
+
+    whole : swept (state x' z' rotations) succeeded ≡ sweptBlock n tol most x
+    whole =
+        is-swept
+        ∙ ap (λ (l : List Float). sweeps n tol most (state l (take (n + n * n - n) (drop n (putMid n (n + n * n - n) work z₁))) 0)) (is-x ∙ ap (λ (v : Float). diagonalTimes v n x) √2-is)
+        ∙ ap (λ (l : List Float). sweeps n tol most (state (diagonalTimes √2 n x) l 0)) (lent-again n (n * n) work z₁ room many ∙ is-z)
+
+    vectors : z' ≡ (sweptBlock n tol most x) .turning .vectors
+    vectors = ap (λ (s : Swept). s .turning .vectors) whole
+
+-- ---- eigenvalues and vectors that agree build the same matrix
+
+pub rebuilt-same : (v v' : ℕ → Float) (z z' : ℕ → ℕ → Float) (k r c : ℕ) → ((p : ℕ) → p < k → v p ≡ v' p) → ((p : ℕ) → p < k → z r p ≡ z' r p) → ((p : ℕ) → p < k → z c p ≡ z' c p) → rebuiltEntry v z k r c ≡ rebuiltEntry v' z' k r c
+unfolding rebuiltEntry
+rebuilt-same v v' z z' zero r c hv hr hc = refl
+rebuilt-same v v' z z' (suc k) r c hv hr hc =
+    turn (v k) (v' k) (z r k) (z' r k) (z c k) (z' c k) (rebuiltEntry v z k r c) (rebuiltEntry v' z' k r c) (hv k (omega arith)) (hr k (omega arith)) (hc k (omega arith))
+    (rebuilt-same v v' z z' k r c (λ p l. hv p (omega arith)) (λ p l. hr p (omega arith)) (λ p l. hc p (omega arith)))
+  where
+    turn : (a a' b b' d d' e e' : Float) → a ≡ a' → b ≡ b' → d ≡ d' → e ≡ e' → cond (lt +0 a) (a *ᶠ b *ᶠ d +ᶠ e) e ≡ cond (lt +0 a') (a' *ᶠ b' *ᶠ d' +ᶠ e') e'
+    turn a a' b b' d d' e e' ea eb ed ee =
+        ap (λ (t : Float). cond (lt +0 t) (t *ᶠ b *ᶠ d +ᶠ e) e) ea
+        ∙ ap (λ (t : Float). cond (lt +0 a') (a' *ᶠ t *ᶠ d +ᶠ e) e) eb
+        ∙ ap (λ (t : Float). cond (lt +0 a') (a' *ᶠ b' *ᶠ t +ᶠ e) e) ed
+        ∙ ap (λ (t : Float). cond (lt +0 a') (a' *ᶠ b' *ᶠ d' +ᶠ t) t) ee
+
+pub rebuilt-block : (n : ℕ) (x work w x₁ x' : List Float) (by : Float) → n ≤ length work → w ≡ tabulate n (valueOf n x) → x₁ ≡ packed n (rebuiltEntry (at (w ++ postOf 0 (n - 0) work)) (inSquare n (drop n (w ++ postOf 0 (n - 0) work))) n) → by ≡ reciprocal (ofBits binary64 0x3ff6_a09e_667f_3bcd) → x' ≡ diagonalTimes by n x₁ → RebuiltBlock n x work x' (w ++ postOf 0 (n - 0) work)
+rebuilt-block n x work w x₁ x' by room is-w is-x₁ is-by is-x' =
+    record {
+      block =
+          is-x'
+          ∙ ap (λ (v : Float). diagonalTimes v n x₁) (is-by ∙ ap reciprocal √2-is)
+          ∙ ap (λ (l : List Float). diagonalTimes (reciprocal √2) n l) (is-x₁ ∙ packed-same n _ _ same);
+      cone-work = left;
+    }
+  where
+    left : w ++ postOf 0 (n - 0) work ≡ tabulate n (valueOf n x) ++ drop n work
+    left =
+        ap (λ (l : List Float). l ++ postOf 0 (n - 0) work) is-w
+        ∙ ap (λ (l : List Float). tabulate n (valueOf n x) ++ l) (post-is 0 n work (omega arith))
+
+    value : (p : ℕ) → p < n → at (w ++ postOf 0 (n - 0) work) p ≡ valueOf n x p
+    value p h =
+        ap (λ (l : List Float). at l p) left
+        ∙ List·getD-append (tabulate n (valueOf n x)) (drop n work) nan p (omega (arith, tabulate-length n (valueOf n x)))
+        ∙ tabulate-at n (valueOf n x) p h
+
+    rest : drop n (w ++ postOf 0 (n - 0) work) ≡ drop n work
+    rest = ap (λ (l : List Float). drop n l) left ∙ drop-at (tabulate n (valueOf n x)) (drop n work) n (tabulate-length n (valueOf n x))
+
+    vector : (p q : ℕ) → inSquare n (drop n (w ++ postOf 0 (n - 0) work)) p q ≡ inSquare n (drop n work) p q
+    vector p q = ap (λ (l : List Float). inSquare n l p q) rest
+
+    same : (r c : ℕ) → r ≤ c → c < n → rebuiltEntry (at (w ++ postOf 0 (n - 0) work)) (inSquare n (drop n (w ++ postOf 0 (n - 0) work))) n r c ≡ rebuiltEntry (valueOf n x) (inSquare n (drop n work)) n r c
+    same r c hr hc = rebuilt-same _ _ _ _ n r c value (λ p l. vector r p) (λ p l. vector c p)
+
+-- ---- the whole
+
+abbrev tolOf : SolverParam → Float
+tolOf par = par .«eps_zero» *ᶠ par .«eps_zero»
+
+abbrev sweptOf : SolverParam → ℕ → List Float → Swept
+sweptOf par n x = sweptBlock n (tolOf par) (par .«sweep_limit») x
+
+abbrev failedOf : ℕ → List Float → Turning → Projected
+failedOf n work m =
+    record { block = m .matrix; work = take n work ++ m .vectors ++ drop (n + n * n) work; rotations = m .rotations; succeeded = false }
+
+abbrev doneOf : ℕ → List Float → Turning → Projected
+doneOf n work m =
+    record {
+      block = diagonalTimes (reciprocal √2) n (packed n (rebuiltEntry (valueOf n (m .matrix)) (inSquare n (m .vectors)) n));
+      work = tabulate n (valueOf n (m .matrix)) ++ m .vectors ++ drop (n + n * n) work;
+      rotations = m .rotations;
+      succeeded = true;
+    }
+
+projected : (par : SolverParam) (n : ℕ) (x work : List Float) (b : Bool) → (sweptOf par n x) .succeeded ≡ b → projPSD par n x work ≡ cond b (doneOf n work ((sweptOf par n x) .turning)) (failedOf n work ((sweptOf par n x) .turning))
+unfolding projPSD
+projected par n x work b e =
+    ap (λ (t : Bool). cond t (doneOf n work ((sweptOf par n x) .turning)) (failedOf n work ((sweptOf par n x) .turning))) e
+
+-- the answer, the block and cone work are what a projection has
+outcome : {fits : Bool} {ruled : Projected} {block work : List Float} {answer : Projection} {block' work' : List Float} (p : Projected) → fits ≡ true → ruled ≡ p → answer ≡ answerOf p → block' ≡ p .block → work' ≡ p .work → BlockOutcome fits ruled block work answer block' work'
+outcome {fits} {ruled} {block} {work} {answer} {block'} {work'} p fit is a b w =
+    record {
+      answered = a ∙ ap answerOf (sym is) ∙ sym (ap (λ (t : Bool). cond t (answerOf ruled) No) fit);
+      block-left = b ∙ ap (λ (t : Projected). t .block) (sym is) ∙ sym (ap (λ (t : Bool). cond t (ruled .block) block) fit);
+      work-left = w ∙ ap (λ (t : Projected). t .work) (sym is) ∙ sym (ap (λ (t : Bool). cond t (ruled .work) work) fit);
+    }
+
+pub refused : {fits : Bool} {ruled : Projected} {block work : List Float} → fits ≡ false → BlockOutcome fits ruled block work No block work
+refused {fits} {ruled} {block} {work} unfit =
+    record {
+      answered = sym (ap (λ (t : Bool). cond t (answerOf ruled) No) unfit);
+      block-left = sym (ap (λ (t : Bool). cond t (ruled .block) block) unfit);
+      work-left = sym (ap (λ (t : Bool). cond t (ruled .work) work) unfit);
+    }
+
+-- what the sizes say where they fit
+pub record Fitting (par : SolverParam) (n : ℕ) (x work : List Float) : Type 0 where
+  pub sized : IsPacked n x
+  pub room : n + n * n ≤ length work
+  pub few : par .«sweep_limit» ≤ mostSweeps
+
+both : (a b : Bool) → (a && b) ≡ true → (a ≡ true) × (b ≡ true)
+both true b e = (refl, e)
+both false b e = absurd (false≢true e)
+
+pub fitting : (par : SolverParam) (n : ℕ) (x work : List Float) → blockFits par (PSD n) x work ≡ true → Fitting par n x work
+fitting par n x work e =
+    let p = both (leb (triangle n) limit && eqb (length x) (triangle n) && leb (n + n * n) (length work)) (sweepsFit par) e in
+    let q = both (leb (triangle n) limit && eqb (length x) (triangle n)) (leb (n + n * n) (length work)) (p .0) in
+    let r = both (leb (triangle n) limit) (eqb (length x) (triangle n)) (q .0) in
+    let s = both (leb 1 (par .«sweep_limit»)) (leb (par .«sweep_limit») mostSweeps) (p .1) in
+    let few : triangle n ≤ limit = leb-true (triangle n) limit (r .0) in
+    record {
+      sized = record { order = by-less limit n (λ l. absurd (omega (arith, few, triangle-large n l))) (λ l. l); stored = eqb-true (length x) (triangle n) (r .1) };
+      room = leb-true (n + n * n) (length work) (q .1);
+      few = leb-true (par .«sweep_limit») mostSweeps (s .1);
+    }
+
+module _ (par : SolverParam) (n : ℕ) (x work : List Float) (fits : Bool) (fit : fits ≡ true) (rotations : ℕ) (succeeded : Bool) (x₁ work₁ : List Float) (first : SweptBlock n (sweptOf par n x) work rotations succeeded x₁ work₁) where
+  turning : Turning
+  turning = (sweptOf par n x) .turning
+
+  pub failed : succeeded ≡ false → BlockOutcome fits (projPSD par n x work) x work (Failed rotations) x₁ work₁
+  failed e =
+      outcome (failedOf n work ((sweptOf par n x) .turning)) fit (projected par n x work false (sym (first .ended) ∙ e)) (ap Failed (first .count)) (first .block) (first .cone-work)
+
+  pub done : succeeded ≡ true → (x' work' : List Float) → n + n * n ≤ length work → RebuiltBlock n x₁ work₁ x' work' → BlockOutcome fits (projPSD par n x work) x work (Done rotations) x' work'
+  unfolding turning
+  done e x' work' room second =
+      outcome (doneOf n work turning) fit (projected par n x work true (sym (first .ended) ∙ e)) (ap Done (first .count)) block-is work-is
+    where
+      kept : drop n work₁ ≡ turning .vectors ++ drop (n + n * n) work
+      kept =
+          ap (λ (l : List Float). drop n l) (first .cone-work ∙ append-assoc (take n work) (turning .vectors) (drop (n + n * n) work))
+          ∙ drop-at (take n work) (turning .vectors ++ drop (n + n * n) work) n (length-take-le n work (omega arith))
+
+      vector : (p q : ℕ) → p < n → q < n → inSquare n (drop n work₁) p q ≡ inSquare n (turning .vectors) p q
+      vector p q hp hq =
+          ap (λ (l : List Float). inSquare n l p q) kept
+          ∙ inSquare-place n (turning .vectors ++ drop (n + n * n) work) p q
+          ∙ List·getD-append (turning .vectors) (drop (n + n * n) work) nan (q * n + p) (omega (arith, first .stored, square-inside n p q hp hq))
+          ∙ sym (inSquare-place n (turning .vectors) p q)
+
+      value : (p : ℕ) → valueOf n x₁ p ≡ valueOf n (turning .matrix) p
+      value p = ap (λ (l : List Float). valueOf n l p) (first .block)
+
+      block-is : x' ≡ (doneOf n work turning) .block
+      block-is =
+          second .block
+          ∙ ap (λ (l : List Float). diagonalTimes (reciprocal √2) n l)
+          (packed-same n _ _ (λ r c hr hc. rebuilt-same (valueOf n x₁) (valueOf n (turning .matrix)) (inSquare n (drop n work₁)) (inSquare n (turning .vectors)) n r c (λ p l. value p) (λ p l. vector r p (omega arith) l) (λ p l. vector c p hc l)))
+
+      work-is : work' ≡ (doneOf n work turning) .work
+      work-is =
+          second .cone-work
+          ∙ ap (λ (l : List Float). tabulate n (valueOf n l) ++ drop n work₁) (first .block)
+          ∙ ap (λ (l : List Float). tabulate n (valueOf n (turning .matrix)) ++ l) kept
+          ∙ sym (append-assoc (tabulate n (valueOf n (turning .matrix))) (turning .vectors) (drop (n + n * n) work))

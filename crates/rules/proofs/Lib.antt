@@ -8,4 +8,5 @@ pub mod Jacobi
 pub mod Outcome
 pub mod Vectors
 pub mod Matrices
+pub mod Kernels
 pub mod WorkedByHand

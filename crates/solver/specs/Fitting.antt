@@ -6,7 +6,7 @@ use lib.Ieee.{Float}
 use lib.ListN.{length}
 use Rattle.rules.specs.declared.MatType.{MatType}
 use Rattle.rules.specs.Limits.{limit}
-use Rattle.rules.specs.Matrices.{nRow, nCol, storedLength}
+use Rattle.rules.specs.Matrices.{nRow, nCol, storedLength, Stored}
 use Rattle.rules.specs.Problem.{Embed, lengthX, lengthY}
 
 abbrev pub embedOf : ℕ → ℕ → MatType → List Float → List Float → List Float → Embed
@@ -28,3 +28,14 @@ pub record LikeX (m n : ℕ) (x : List Float) : Type 0 where
 
 pub record LikeY (m n : ℕ) (y : List Float) : Type 0 where
   pub is : length y ≡ lengthY m n
+
+-- the lengths that an operator, and one turned over, ask of a vector and of the one that they add to
+pub record OpFits (t : MatType) (mat x y : List Float) : Type 0 where
+  pub stored : Stored t mat
+  pub from : length x ≡ nCol t
+  pub to : length y ≡ nRow t
+
+pub record TransOpFits (t : MatType) (mat x y : List Float) : Type 0 where
+  pub stored : Stored t mat
+  pub from : length x ≡ nRow t
+  pub to : length y ≡ nCol t

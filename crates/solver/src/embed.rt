@@ -11,7 +11,7 @@ ghost use Rattle.rules.specs.Vectors.{added, scaled};
 ghost use Rattle.rules.specs.Matrices.{opped, transOpped};
 ghost use Rattle.rules.specs.Problem as rules;
 ghost use Rattle.rules.specs.Step.{opK, transOpK};
-ghost use Rattle.solver.specs.Fitting.{embedOf, Fits, LikeX, LikeY};
+ghost use Rattle.solver.specs.Fitting.{embedOf, Fits, LikeX, LikeY, OpFits, TransOpFits};
 
 // A matrix of one column.
 pub fn column(rows: usize) -> MatType
@@ -42,8 +42,19 @@ pub fn op(
     let nmm = nm + m;
     let nmm1 = nmm + 1;
     let nm1 = nm + 1;
-    op_n(t, c, a, alpha, &x[n..nm], &x[nmm..nmm1], beta, &mut y[0..n]);
+    op_n(
+        n,
+        t,
+        c,
+        a,
+        alpha,
+        &x[n..nm],
+        &x[nmm..nmm1],
+        beta,
+        &mut y[0..n],
+    );
     op_m(
+        m,
         t,
         a,
         b,
@@ -54,10 +65,21 @@ pub fn op(
         beta,
         &mut y[n..nm],
     );
-    op_1(c, b, alpha, &x[0..n], &x[n..nm], beta, &mut y[nm..nm1]);
+    op_1(
+        m,
+        n,
+        c,
+        b,
+        alpha,
+        &x[0..n],
+        &x[n..nm],
+        beta,
+        &mut y[nm..nm1],
+    );
 }
 
 fn op_n(
+    n: usize,
     t: MatType,
     c: &[f64],
     a: &[f64],
@@ -66,13 +88,17 @@ fn op_n(
     x_tau: &[f64],
     beta: f64,
     y_n: &mut [f64],
-) {
+)
+    requires { ⌜ TransOpFits t (now a) (now «x_y») (now «y_n») ⌝ }
+    requires { ⌜ OpFits (rules.column n) (now c) (now «x_tau») (now «y_n») ⌝ }
+    ensures { λ _. ⌜ now («y_n» .exit) ≡ opped (rules.column n) alpha (now (c .entry)) (now («x_tau» .entry)) one (transOpped t alpha (now (a .entry)) (now («x_y» .entry)) beta (now («y_n» .entry))) ⌝ }
+{
     matop::trans_op(t, alpha, a, x_y, beta, y_n);
-    let n = column(y_n.len());
-    matop::op(n, alpha, c, x_tau, 1.0, y_n);
+    matop::op(column(n), alpha, c, x_tau, 1.0, y_n);
 }
 
 fn op_m(
+    m: usize,
     t: MatType,
     a: &[f64],
     b: &[f64],
@@ -82,18 +108,34 @@ fn op_m(
     x_tau: &[f64],
     beta: f64,
     y_m: &mut [f64],
-) {
+)
+    requires { ⌜ OpFits t (now a) (now «x_x») (now «y_m») ⌝ }
+    requires { ⌜ length (now «x_s») ≡ length (now «y_m») ⌝ }
+    requires { ⌜ OpFits (rules.column m) (now b) (now «x_tau») (now «y_m») ⌝ }
+    ensures { λ _. ⌜ now («y_m» .exit) ≡ opped (rules.column m) alpha (now (b .entry)) (now («x_tau» .entry)) one (added (neg alpha) (now («x_s» .entry)) (opped t (neg alpha) (now (a .entry)) (now («x_x» .entry)) beta (now («y_m» .entry)))) ⌝ }
+{
     matop::op(t, -alpha, a, x_x, beta, y_m);
     linalg::add(-alpha, x_s, y_m);
-    let m = column(y_m.len());
-    matop::op(m, alpha, b, x_tau, 1.0, y_m);
+    matop::op(column(m), alpha, b, x_tau, 1.0, y_m);
 }
 
-fn op_1(c: &[f64], b: &[f64], alpha: f64, x_x: &[f64], x_y: &[f64], beta: f64, y_1: &mut [f64]) {
-    let n = column(x_x.len());
-    matop::trans_op(n, -alpha, c, x_x, beta, y_1);
-    let m = column(x_y.len());
-    matop::trans_op(m, -alpha, b, x_y, 1.0, y_1);
+fn op_1(
+    m: usize,
+    n: usize,
+    c: &[f64],
+    b: &[f64],
+    alpha: f64,
+    x_x: &[f64],
+    x_y: &[f64],
+    beta: f64,
+    y_1: &mut [f64],
+)
+    requires { ⌜ TransOpFits (rules.column n) (now c) (now «x_x») (now «y_1») ⌝ }
+    requires { ⌜ TransOpFits (rules.column m) (now b) (now «x_y») (now «y_1») ⌝ }
+    ensures { λ _. ⌜ now («y_1» .exit) ≡ transOpped (rules.column m) (neg alpha) (now (b .entry)) (now («x_y» .entry)) one (transOpped (rules.column n) (neg alpha) (now (c .entry)) (now («x_x» .entry)) beta (now («y_1» .entry))) ⌝ }
+{
+    matop::trans_op(column(n), -alpha, c, x_x, beta, y_1);
+    matop::trans_op(column(m), -alpha, b, x_y, 1.0, y_1);
 }
 
 // x becomes alpha * K transposed * y + beta * x.
@@ -118,13 +160,44 @@ pub fn trans_op(
     let nmm = nm + m;
     let nmm1 = nmm + 1;
     let nm1 = nm + 1;
-    trans_x(t, c, a, alpha, &y[n..nm], &y[nm..nm1], beta, &mut x[0..n]);
-    trans_y(t, a, b, alpha, &y[0..n], &y[nm..nm1], beta, &mut x[n..nm]);
+    trans_x(
+        n,
+        t,
+        c,
+        a,
+        alpha,
+        &y[n..nm],
+        &y[nm..nm1],
+        beta,
+        &mut x[0..n],
+    );
+    trans_y(
+        m,
+        t,
+        a,
+        b,
+        alpha,
+        &y[0..n],
+        &y[nm..nm1],
+        beta,
+        &mut x[n..nm],
+    );
     trans_s(alpha, &y[n..nm], beta, &mut x[nm..nmm]);
-    trans_tau(c, b, alpha, &y[0..n], &y[n..nm], beta, &mut x[nmm..nmm1]);
+    trans_tau(
+        m,
+        n,
+        c,
+        b,
+        alpha,
+        &y[0..n],
+        &y[n..nm],
+        beta,
+        &mut x[nmm..nmm1],
+    );
 }
 
 fn trans_x(
+    n: usize,
     t: MatType,
     c: &[f64],
     a: &[f64],
@@ -133,13 +206,17 @@ fn trans_x(
     y_1: &[f64],
     beta: f64,
     x_x: &mut [f64],
-) {
+)
+    requires { ⌜ TransOpFits t (now a) (now «y_m») (now «x_x») ⌝ }
+    requires { ⌜ OpFits (rules.column n) (now c) (now «y_1») (now «x_x») ⌝ }
+    ensures { λ _. ⌜ now («x_x» .exit) ≡ opped (rules.column n) (neg alpha) (now (c .entry)) (now («y_1» .entry)) one (transOpped t (neg alpha) (now (a .entry)) (now («y_m» .entry)) beta (now («x_x» .entry))) ⌝ }
+{
     matop::trans_op(t, -alpha, a, y_m, beta, x_x);
-    let n = column(x_x.len());
-    matop::op(n, -alpha, c, y_1, 1.0, x_x);
+    matop::op(column(n), -alpha, c, y_1, 1.0, x_x);
 }
 
 fn trans_y(
+    m: usize,
     t: MatType,
     a: &[f64],
     b: &[f64],
@@ -148,18 +225,26 @@ fn trans_y(
     y_1: &[f64],
     beta: f64,
     x_y: &mut [f64],
-) {
+)
+    requires { ⌜ OpFits t (now a) (now «y_n») (now «x_y») ⌝ }
+    requires { ⌜ OpFits (rules.column m) (now b) (now «y_1») (now «x_y») ⌝ }
+    ensures { λ _. ⌜ now («x_y» .exit) ≡ opped (rules.column m) (neg alpha) (now (b .entry)) (now («y_1» .entry)) one (opped t alpha (now (a .entry)) (now («y_n» .entry)) beta (now («x_y» .entry))) ⌝ }
+{
     matop::op(t, alpha, a, y_n, beta, x_y);
-    let m = column(x_y.len());
-    matop::op(m, -alpha, b, y_1, 1.0, x_y);
+    matop::op(column(m), -alpha, b, y_1, 1.0, x_y);
 }
 
-fn trans_s(alpha: f64, y_m: &[f64], beta: f64, x_s: &mut [f64]) {
+fn trans_s(alpha: f64, y_m: &[f64], beta: f64, x_s: &mut [f64])
+    requires { ⌜ length (now «y_m») ≡ length (now «x_s») ⌝ }
+    ensures { λ _. ⌜ now («x_s» .exit) ≡ added (neg alpha) (now («y_m» .entry)) (scaled beta (now («x_s» .entry))) ⌝ }
+{
     linalg::scale(beta, x_s);
     linalg::add(-alpha, y_m, x_s);
 }
 
 fn trans_tau(
+    m: usize,
+    n: usize,
     c: &[f64],
     b: &[f64],
     alpha: f64,
@@ -167,9 +252,11 @@ fn trans_tau(
     y_m: &[f64],
     beta: f64,
     x_tau: &mut [f64],
-) {
-    let n = column(y_n.len());
-    matop::trans_op(n, alpha, c, y_n, beta, x_tau);
-    let m = column(y_m.len());
-    matop::trans_op(m, alpha, b, y_m, 1.0, x_tau);
+)
+    requires { ⌜ TransOpFits (rules.column n) (now c) (now «y_n») (now «x_tau») ⌝ }
+    requires { ⌜ TransOpFits (rules.column m) (now b) (now «y_m») (now «x_tau») ⌝ }
+    ensures { λ _. ⌜ now («x_tau» .exit) ≡ transOpped (rules.column m) alpha (now (b .entry)) (now («y_m» .entry)) one (transOpped (rules.column n) alpha (now (c .entry)) (now («y_n» .entry)) beta (now («x_tau» .entry))) ⌝ }
+{
+    matop::trans_op(column(n), alpha, c, y_n, beta, x_tau);
+    matop::trans_op(column(m), alpha, b, y_m, 1.0, x_tau);
 }

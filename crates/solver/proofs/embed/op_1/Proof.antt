@@ -1,0 +1,41 @@
+use borrow.Author.Needs.{needs}
+use native.Mathlib.Omega.{arith}
+use Prim.Native.Nat.{ℕ, _+_, _-_, _*_, _≤_, _<_}
+use mathlib.Core.Path.{_≡_, refl, sym, ap, _∙_}
+use lib.ListN.{length, getD, set, length-set}
+use borrow.Author.Needs.{needs}
+use Rattle.solver.proofs.embed.op_1.Statement.{statement}
+use Rattle.solver.proofs.embed.op_1.Tie as tie
+use Rattle.solver.proofs.embed.op_1.Reads as reads
+use Rattle.solver.proofs.embed.op_1.Lts as lts
+use Rattle.matop.proofs.trans_op.Reads as trans-op-reads
+use Rattle.solver.proofs.embed.column.Reads as column-reads
+
+column-requires : tie.Need-column-requires
+column-requires c κs = search needs
+
+trans-op-requires : tie.Need-trans-op-requires
+trans-op-requires c κs = search needs
+
+column-requires-2 : tie.Need-column-requires-2
+column-requires-2 c κs = search needs
+
+trans-op-requires-2 : tie.Need-trans-op-requires-2
+trans-op-requires-2 c κs = search needs
+
+same-length : tie.Need-same-length
+same-length c = search needs
+
+returns : tie.Need-returns
+returns c = search needs
+
+pub op-1-spec : {M : Type 1} → statement M
+op-1-spec =
+    tie.close
+    (tie.spec
+    column-requires
+    trans-op-requires
+    column-requires-2
+    trans-op-requires-2
+    same-length
+    returns)

@@ -1,30 +1,37 @@
 -- Laws of the kernels for their callers: what their sizes ask, and that they keep a length.
-use Prim.Native.Nat.{ℕ}
+use Prim.Native.Nat.{ℕ, _≤_}
+use native.Mathlib.Omega.{arith}
 use mathlib.Core.Path.{_≡_}
 use mathlib.Core.Bool.{Bool, true, false, cond}
 use mathlib.Core.List.{List}
-use borrow.Author.Tests.{le-leb, eq-eqb}
+use borrow.Author.Tests.{eq-eqb}
 use lib.Ieee.{Float}
 use lib.ListN.{length}
 use Rattle.rules.specs.declared.MatType.{MatType}
-use Rattle.rules.specs.Arithmetic.{each}
+use Rattle.rules.specs.Limits.{limit}
+use Rattle.rules.specs.Outcome.{Outcome}
 use Rattle.rules.specs.Vectors.{sameLength, scaled, added}
-use Rattle.rules.specs.Matrices.{nRow, nCol, isEmpty, entry, flipped, storedFits, Stored, opFits, transOpFits, transformed, opped, transOpped}
+use Rattle.rules.specs.Matrices.{nRow, nCol, isEmpty, entry, flipped, Stored, opFits, transOpFits, transformed, opped, transOpped}
+use Rattle.rules.specs.Problem.{column}
 use Rattle.rules.proofs.Arithmetic.{each-length}
+use Rattle.rules.proofs.Outcome.{ruled-if-fits}
+use Rattle.rules.proofs.Matrices.{fits-if-stored}
 
 -- ---- sizes that fit
 
-pub stored-fits : {t : MatType} {mat : List Float} → Stored t mat → storedFits t mat ≡ true
-stored-fits s = rw (le-leb _ _ (s .rows), le-leb _ _ (s .cols), eq-eqb _ _ (s .all))
+pub column-stored : {rows : ℕ} {v : List Float} → rows ≤ limit → length v ≡ rows → Stored (column rows) v
+column-stored h e = record { rows = h; cols = omega arith; all = omega arith }
 
-pub op-fits : {t : MatType} {mat : List Float} (x y : List Float) → Stored t mat → length x ≡ nCol t → length y ≡ nRow t → opFits t mat x y ≡ true
-op-fits x y s h k = rw (stored-fits s, eq-eqb _ _ h, eq-eqb _ _ k)
+-- what a caller whose sizes fit learns
+module _ {y ruled : List Float} {answer : Bool} {after : List Float} where
+  pub op-ruled : {t : MatType} {mat : List Float} (x : List Float) → Outcome (opFits t mat x y) ruled y answer after → Stored t mat → length x ≡ nCol t → length y ≡ nRow t → after ≡ ruled
+  op-ruled {t} x o s h k = ruled-if-fits o (rw (fits-if-stored s, eq-eqb (length x) (nCol t) h) (eq-eqb (length y) (nRow t) k))
 
-pub trans-op-fits : {t : MatType} {mat : List Float} (x y : List Float) → Stored t mat → length x ≡ nRow t → length y ≡ nCol t → transOpFits t mat x y ≡ true
-trans-op-fits x y s h k = rw (stored-fits s, eq-eqb _ _ h, eq-eqb _ _ k)
+  pub trans-op-ruled : {t : MatType} {mat : List Float} (x : List Float) → Outcome (transOpFits t mat x y) ruled y answer after → Stored t mat → length x ≡ nRow t → length y ≡ nCol t → after ≡ ruled
+  trans-op-ruled {t} x o s h k = ruled-if-fits o (rw (fits-if-stored s, eq-eqb (length x) (nRow t) h) (eq-eqb (length y) (nCol t) k))
 
-pub same-length-fits : (x y : List Float) → length x ≡ length y → sameLength x y ≡ true
-same-length-fits x y h = eq-eqb _ _ h
+  pub add-ruled : (x : List Float) → Outcome (sameLength x y) ruled y answer after → length x ≡ length y → after ≡ ruled
+  add-ruled x o h = ruled-if-fits o (eq-eqb (length x) (length y) h)
 
 -- ---- lengths kept
 

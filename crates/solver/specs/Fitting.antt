@@ -29,13 +29,12 @@ pub record LikeX (m n : ℕ) (x : List Float) : Type 0 where
 pub record LikeY (m n : ℕ) (y : List Float) : Type 0 where
   pub is : length y ≡ lengthY m n
 
--- the lengths that an operator, and one turned over, ask of a vector and of the one that they add to
-pub record OpFits (t : MatType) (mat x y : List Float) : Type 0 where
+-- a matrix of these sizes, and a vector that acts as a matrix of one column
+pub record Sized (rows cols : ℕ) (t : MatType) (mat : List Float) : Type 0 where
+  pub rows-are : nRow t ≡ rows
+  pub cols-are : nCol t ≡ cols
   pub stored : Stored t mat
-  pub from : length x ≡ nCol t
-  pub to : length y ≡ nRow t
 
-pub record TransOpFits (t : MatType) (mat x y : List Float) : Type 0 where
-  pub stored : Stored t mat
-  pub from : length x ≡ nRow t
-  pub to : length y ≡ nCol t
+pub record Column (rows : ℕ) (v : List Float) : Type 0 where
+  pub within : rows ≤ limit
+  pub is : length v ≡ rows

@@ -12,14 +12,56 @@ use Rattle.linalg.proofs.add.Reads as add-reads
 use Rattle.matop.proofs.op.Reads as op-reads
 use Rattle.solver.proofs.embed.column.Reads as column-reads
 
+add-nm : tie.Need-add-nm
+add-nm c = search needs
+
+add-nmm : tie.Need-add-nmm
+add-nmm c = search needs
+
+add-nmm1 : tie.Need-add-nmm1
+add-nmm1 c = search needs
+
+sub-op : tie.Need-sub-op
+sub-op c = search needs
+
+part-op-start : tie.Need-part-op-start
+part-op-start c = search needs
+
+part-op-end : tie.Need-part-op-end
+part-op-end c = search needs
+
 op-requires : tie.Need-op-requires
 op-requires c κs = search needs
+
+mul-add : tie.Need-mul-add
+mul-add c = search needs
+
+sub-add : tie.Need-sub-add
+sub-add c = search needs
+
+part-add-start : tie.Need-part-add-start
+part-add-start c = search needs
+
+part-add-end : tie.Need-part-add-end
+part-add-end c = search needs
 
 add-requires : tie.Need-add-requires
 add-requires c κs = search needs
 
 column-requires : tie.Need-column-requires
 column-requires c κs = search needs
+
+mul-op : tie.Need-mul-op
+mul-op c = search needs
+
+sub-op-2 : tie.Need-sub-op-2
+sub-op-2 c = search needs
+
+part-op-start-2 : tie.Need-part-op-start-2
+part-op-start-2 c = search needs
+
+part-op-end-2 : tie.Need-part-op-end-2
+part-op-end-2 c = search needs
 
 op-requires-2 : tie.Need-op-requires-2
 op-requires-2 c κs = search needs
@@ -32,4 +74,25 @@ returns c = search needs
 
 pub op-m-spec : {M : Type 1} → statement M
 op-m-spec =
-    tie.close (tie.spec op-requires add-requires column-requires op-requires-2 same-length returns)
+    tie.close
+    (tie.spec
+    add-nm
+    add-nmm
+    add-nmm1
+    sub-op
+    part-op-start
+    part-op-end
+    op-requires
+    mul-add
+    sub-add
+    part-add-start
+    part-add-end
+    add-requires
+    column-requires
+    mul-op
+    sub-op-2
+    part-op-start-2
+    part-op-end-2
+    op-requires-2
+    same-length
+    returns)

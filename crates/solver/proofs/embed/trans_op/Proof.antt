@@ -22,12 +22,6 @@ add-nmm c = search needs
 add-nmm1 : tie.Need-add-nmm1
 add-nmm1 c = search needs
 
-add-nm1 : tie.Need-add-nm1
-add-nm1 c = search needs
-
-mul-trans-x : tie.Need-mul-trans-x
-mul-trans-x c = search needs
-
 sub-trans-x : tie.Need-sub-trans-x
 sub-trans-x c = search needs
 
@@ -37,29 +31,11 @@ part-trans-x-start c = search needs
 part-trans-x-end : tie.Need-part-trans-x-end
 part-trans-x-end c = search needs
 
-mul-trans-x-2 : tie.Need-mul-trans-x-2
-mul-trans-x-2 c = search needs
-
-sub-trans-x-2 : tie.Need-sub-trans-x-2
-sub-trans-x-2 c = search needs
-
-part-trans-x-start-2 : tie.Need-part-trans-x-start-2
-part-trans-x-start-2 c = search needs
-
-part-trans-x-end-2 : tie.Need-part-trans-x-end-2
-part-trans-x-end-2 c = search needs
-
-sub-trans-x-3 : tie.Need-sub-trans-x-3
-sub-trans-x-3 c = search needs
-
-part-trans-x-start-3 : tie.Need-part-trans-x-start-3
-part-trans-x-start-3 c = search needs
-
-part-trans-x-end-3 : tie.Need-part-trans-x-end-3
-part-trans-x-end-3 c = search needs
-
 trans-x-requires : tie.Need-trans-x-requires
 trans-x-requires c κs = search needs
+
+mul-trans-y : tie.Need-mul-trans-y
+mul-trans-y c = search needs
 
 sub-trans-y : tie.Need-sub-trans-y
 sub-trans-y c = search needs
@@ -69,30 +45,6 @@ part-trans-y-start c = search needs
 
 part-trans-y-end : tie.Need-part-trans-y-end
 part-trans-y-end c = search needs
-
-mul-trans-y : tie.Need-mul-trans-y
-mul-trans-y c = search needs
-
-sub-trans-y-2 : tie.Need-sub-trans-y-2
-sub-trans-y-2 c = search needs
-
-part-trans-y-start-2 : tie.Need-part-trans-y-start-2
-part-trans-y-start-2 c = search needs
-
-part-trans-y-end-2 : tie.Need-part-trans-y-end-2
-part-trans-y-end-2 c = search needs
-
-mul-trans-y-2 : tie.Need-mul-trans-y-2
-mul-trans-y-2 c = search needs
-
-sub-trans-y-3 : tie.Need-sub-trans-y-3
-sub-trans-y-3 c = search needs
-
-part-trans-y-start-3 : tie.Need-part-trans-y-start-3
-part-trans-y-start-3 c = search needs
-
-part-trans-y-end-3 : tie.Need-part-trans-y-end-3
-part-trans-y-end-3 c = search needs
 
 trans-y-requires : tie.Need-trans-y-requires
 trans-y-requires c κs = search needs
@@ -109,20 +61,11 @@ part-trans-s-start c = search needs
 part-trans-s-end : tie.Need-part-trans-s-end
 part-trans-s-end c = search needs
 
-mul-trans-s-2 : tie.Need-mul-trans-s-2
-mul-trans-s-2 c = search needs
-
-sub-trans-s-2 : tie.Need-sub-trans-s-2
-sub-trans-s-2 c = search needs
-
-part-trans-s-start-2 : tie.Need-part-trans-s-start-2
-part-trans-s-start-2 c = search needs
-
-part-trans-s-end-2 : tie.Need-part-trans-s-end-2
-part-trans-s-end-2 c = search needs
-
 trans-s-requires : tie.Need-trans-s-requires
 trans-s-requires c κs = search needs
+
+mul-trans-tau : tie.Need-mul-trans-tau
+mul-trans-tau c = search needs
 
 sub-trans-tau : tie.Need-sub-trans-tau
 sub-trans-tau c = search needs
@@ -132,30 +75,6 @@ part-trans-tau-start c = search needs
 
 part-trans-tau-end : tie.Need-part-trans-tau-end
 part-trans-tau-end c = search needs
-
-mul-trans-tau : tie.Need-mul-trans-tau
-mul-trans-tau c = search needs
-
-sub-trans-tau-2 : tie.Need-sub-trans-tau-2
-sub-trans-tau-2 c = search needs
-
-part-trans-tau-start-2 : tie.Need-part-trans-tau-start-2
-part-trans-tau-start-2 c = search needs
-
-part-trans-tau-end-2 : tie.Need-part-trans-tau-end-2
-part-trans-tau-end-2 c = search needs
-
-mul-trans-tau-2 : tie.Need-mul-trans-tau-2
-mul-trans-tau-2 c = search needs
-
-sub-trans-tau-3 : tie.Need-sub-trans-tau-3
-sub-trans-tau-3 c = search needs
-
-part-trans-tau-start-3 : tie.Need-part-trans-tau-start-3
-part-trans-tau-start-3 c = search needs
-
-part-trans-tau-end-3 : tie.Need-part-trans-tau-end-3
-part-trans-tau-end-3 c = search needs
 
 trans-tau-requires : tie.Need-trans-tau-requires
 trans-tau-requires c κs = search needs
@@ -173,51 +92,24 @@ trans-op-spec =
     add-nm
     add-nmm
     add-nmm1
-    add-nm1
-    mul-trans-x
     sub-trans-x
     part-trans-x-start
     part-trans-x-end
-    mul-trans-x-2
-    sub-trans-x-2
-    part-trans-x-start-2
-    part-trans-x-end-2
-    sub-trans-x-3
-    part-trans-x-start-3
-    part-trans-x-end-3
     trans-x-requires
+    mul-trans-y
     sub-trans-y
     part-trans-y-start
     part-trans-y-end
-    mul-trans-y
-    sub-trans-y-2
-    part-trans-y-start-2
-    part-trans-y-end-2
-    mul-trans-y-2
-    sub-trans-y-3
-    part-trans-y-start-3
-    part-trans-y-end-3
     trans-y-requires
     mul-trans-s
     sub-trans-s
     part-trans-s-start
     part-trans-s-end
-    mul-trans-s-2
-    sub-trans-s-2
-    part-trans-s-start-2
-    part-trans-s-end-2
     trans-s-requires
+    mul-trans-tau
     sub-trans-tau
     part-trans-tau-start
     part-trans-tau-end
-    mul-trans-tau
-    sub-trans-tau-2
-    part-trans-tau-start-2
-    part-trans-tau-end-2
-    mul-trans-tau-2
-    sub-trans-tau-3
-    part-trans-tau-start-3
-    part-trans-tau-end-3
     trans-tau-requires
     same-length
     returns)

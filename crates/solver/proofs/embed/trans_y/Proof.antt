@@ -11,11 +11,38 @@ use Rattle.solver.proofs.embed.trans_y.Lts as lts
 use Rattle.matop.proofs.op.Reads as op-reads
 use Rattle.solver.proofs.embed.column.Reads as column-reads
 
+add-nm : tie.Need-add-nm
+add-nm c = search needs
+
+add-nm1 : tie.Need-add-nm1
+add-nm1 c = search needs
+
+sub-op : tie.Need-sub-op
+sub-op c = search needs
+
+part-op-start : tie.Need-part-op-start
+part-op-start c = search needs
+
+part-op-end : tie.Need-part-op-end
+part-op-end c = search needs
+
 op-requires : tie.Need-op-requires
 op-requires c κs = search needs
 
 column-requires : tie.Need-column-requires
 column-requires c κs = search needs
+
+mul-op : tie.Need-mul-op
+mul-op c = search needs
+
+sub-op-2 : tie.Need-sub-op-2
+sub-op-2 c = search needs
+
+part-op-start-2 : tie.Need-part-op-start-2
+part-op-start-2 c = search needs
+
+part-op-end-2 : tie.Need-part-op-end-2
+part-op-end-2 c = search needs
 
 op-requires-2 : tie.Need-op-requires-2
 op-requires-2 c κs = search needs
@@ -27,4 +54,20 @@ returns : tie.Need-returns
 returns c = search needs
 
 pub trans-y-spec : {M : Type 1} → statement M
-trans-y-spec = tie.close (tie.spec op-requires column-requires op-requires-2 same-length returns)
+trans-y-spec =
+    tie.close
+    (tie.spec
+    add-nm
+    add-nm1
+    sub-op
+    part-op-start
+    part-op-end
+    op-requires
+    column-requires
+    mul-op
+    sub-op-2
+    part-op-start-2
+    part-op-end-2
+    op-requires-2
+    same-length
+    returns)

@@ -9,4 +9,5 @@ pub mod Outcome
 pub mod Vectors
 pub mod Matrices
 pub mod Kernels
+pub mod Parts
 pub mod WorkedByHand

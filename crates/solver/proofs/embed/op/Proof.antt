@@ -64,7 +64,7 @@ same-length : tie.Need-same-length
 same-length c = search needs
 
 returns : tie.Need-returns
-returns c = search needs
+returns c = ?
 
 pub op-spec : {M : Type 1} → statement M
 op-spec =

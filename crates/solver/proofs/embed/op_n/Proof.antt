@@ -58,7 +58,7 @@ same-length : tie.Need-same-length
 same-length c = search needs
 
 returns : tie.Need-returns
-returns c = search needs
+returns c = ?
 
 pub op-n-spec : {M : Type 1} → statement M
 op-n-spec =

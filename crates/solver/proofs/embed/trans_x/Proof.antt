@@ -55,7 +55,7 @@ same-length : tie.Need-same-length
 same-length c = search needs
 
 returns : tie.Need-returns
-returns c = search needs
+returns c = ?
 
 pub trans-x-spec : {M : Type 1} → statement M
 trans-x-spec =

@@ -1,0 +1,61 @@
+-- Laws of a buffer whose parts are lent in turn, one after another from the front: each part lent is still the original's, and the new parts make the whole.
+use Prim.Native.Nat.{ℕ, _+_, _-_, _≤_}
+use native.Mathlib.Nat.{add-sub-cancel-left}
+use native.Mathlib.Omega.{arith}
+use mathlib.Core.Path.{_≡_, refl, sym, ap, _∙_}
+use mathlib.Core.List.{List, _++_, append-assoc, append-nil}
+use lib.Ieee.{Float}
+use lib.ListN.{length, take, drop, length-append, length-take, length-drop, drop-of-length-le}
+use lib.Seq.{take-at, drop-at, drop-drop, length-take-le}
+use Rattle.rules.specs.Step.{part}
+
+-- what a list is after the part from place a to place e was lent and came back as ys
+abbrev pub put : ℕ → ℕ → List Float → List Float → List Float
+put a e w ys = take a w ++ (ys ++ drop (e - a) (drop a w))
+
+-- how many places a part from a to a + k has
+pub places : (a k : ℕ) → a + k - a ≡ k
+places a k = add-sub-cancel-left a k
+
+pub part-length : (a k : ℕ) (w : List Float) → a + k ≤ length w → length (part a k w) ≡ k
+part-length a k w h = length-take-le k (drop a w) (rw length-drop (omega arith))
+
+pub drop-rest : (a e : ℕ) (w : List Float) → a ≤ e → drop (e - a) (drop a w) ≡ drop e w
+drop-rest a e w h =
+    let i : a + (e - a) ≡ e = omega arith in
+    rw (drop-drop (e - a) a w, i)
+
+-- The list is new up to place a. Then the part that is lent is the original's, and when it comes back the list is new up to place e.
+module _ (a e : ℕ) (new w : List Float) (new-to : length new ≡ a) (fits : a ≤ e) where
+  pub next-lent : take (e - a) (drop a (new ++ drop a w)) ≡ take (e - a) (drop a w)
+  next-lent = ap (take (e - a)) (drop-at new (drop a w) a new-to)
+
+  pub next-put : (ys : List Float) → put a e (new ++ drop a w) ys ≡ (new ++ ys) ++ drop e w
+  next-put ys =
+      rw (take-at new (drop a w) a new-to, drop-at new (drop a w) a new-to, drop-rest a e w fits, append-assoc)
+
+pub all-put : (e : ℕ) (new w : List Float) → length w ≤ e → new ++ drop e w ≡ new
+all-put e new w h = rw (drop-of-length-le w h) (append-nil new)
+
+-- three parts, of n, m and k places
+module _ (n m k : ℕ) (w p q : List Float) (p-length : length p ≡ n) (q-length : length q ≡ m) where
+  pub first-put : put 0 n w p ≡ p ++ drop n w
+  first-put = rw (drop-rest 0 n w (omega arith))
+
+  second-put : put n (n + m) (put 0 n w p) q ≡ p ++ q ++ drop (n + m) w
+  second-put = rw (first-put, next-put n (n + m) p w p-length (omega arith) q)
+
+  two-length : length (p ++ q) ≡ n + m
+  two-length = rw (length-append, p-length, q-length)
+
+  pub lent-2 : take (n + m - n) (drop n (put 0 n w p)) ≡ part n m w
+  lent-2 = rw (first-put, next-lent n (n + m) p w p-length (omega arith), places n m)
+
+  pub lent-3 : take (n + m + k - (n + m)) (drop (n + m) (put n (n + m) (put 0 n w p) q)) ≡ part (n + m) k w
+  lent-3 = rw (second-put, next-lent (n + m) (n + m + k) (p ++ q) w two-length (omega arith), places (n + m) k)
+
+  third-put : (r : List Float) → put (n + m) (n + m + k) (put n (n + m) (put 0 n w p) q) r ≡ p ++ q ++ r ++ drop (n + m + k) w
+  third-put r = rw (second-put, next-put (n + m) (n + m + k) (p ++ q) w two-length (omega arith) r)
+
+  pub put-3 : (r : List Float) → length w ≡ n + m + k → put (n + m) (n + m + k) (put n (n + m) (put 0 n w p) q) r ≡ p ++ q ++ r
+  put-3 r whole = third-put r ∙ all-put (n + m + k) (p ++ q ++ r) w (omega arith)

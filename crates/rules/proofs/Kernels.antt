@@ -1,6 +1,5 @@
 -- Laws of the kernels for their callers: what their sizes ask, and that they keep a length.
-use Prim.Native.Nat.{ℕ, _≤_}
-use native.Mathlib.Omega.{arith}
+use Prim.Native.Nat.{ℕ}
 use mathlib.Core.Path.{_≡_}
 use mathlib.Core.Bool.{Bool, true, false, cond}
 use mathlib.Core.List.{List}
@@ -8,19 +7,14 @@ use borrow.Author.Tests.{eq-eqb}
 use lib.Ieee.{Float}
 use lib.ListN.{length}
 use Rattle.rules.specs.declared.MatType.{MatType}
-use Rattle.rules.specs.Limits.{limit}
 use Rattle.rules.specs.Outcome.{Outcome}
 use Rattle.rules.specs.Vectors.{sameLength, scaled, added}
 use Rattle.rules.specs.Matrices.{nRow, nCol, isEmpty, entry, flipped, Stored, opFits, transOpFits, transformed, opped, transOpped}
-use Rattle.rules.specs.Problem.{column}
 use Rattle.rules.proofs.Arithmetic.{each-length}
 use Rattle.rules.proofs.Outcome.{ruled-if-fits}
 use Rattle.rules.proofs.Matrices.{fits-if-stored}
 
 -- ---- sizes that fit
-
-pub column-stored : {rows : ℕ} {v : List Float} → rows ≤ limit → length v ≡ rows → Stored (column rows) v
-column-stored h e = record { rows = h; cols = omega arith; all = omega arith }
 
 -- what a caller whose sizes fit learns
 module _ {y ruled : List Float} {answer : Bool} {after : List Float} where

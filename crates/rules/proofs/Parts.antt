@@ -17,6 +17,9 @@ put a e w ys = take a w ++ (ys ++ drop (e - a) (drop a w))
 pub places : (a k : ℕ) → a + k - a ≡ k
 places a k = add-sub-cancel-left a k
 
+pub from-start : (e : ℕ) → e - 0 ≡ e
+from-start e = omega arith
+
 pub part-length : (a k : ℕ) (w : List Float) → a + k ≤ length w → length (part a k w) ≡ k
 part-length a k w h = length-take-le k (drop a w) (rw length-drop (omega arith))
 
@@ -59,3 +62,15 @@ module _ (n m k : ℕ) (w p q : List Float) (p-length : length p ≡ n) (q-lengt
 
   pub put-3 : (r : List Float) → length w ≡ n + m + k → put (n + m) (n + m + k) (put n (n + m) (put 0 n w p) q) r ≡ p ++ q ++ r
   put-3 r whole = third-put r ∙ all-put (n + m + k) (p ++ q ++ r) w (omega arith)
+
+-- four parts, of n, m, k and l places
+module _ (n m k l : ℕ) (w p q r : List Float) (p-length : length p ≡ n) (q-length : length q ≡ m) (r-length : length r ≡ k) where
+  three-length : length (p ++ q ++ r) ≡ n + m + k
+  three-length = rw (length-append, two-length n m k w p q p-length q-length, r-length)
+
+  pub lent-4 : take (n + m + k + l - (n + m + k)) (drop (n + m + k) (put (n + m) (n + m + k) (put n (n + m) (put 0 n w p) q) r)) ≡ part (n + m + k) l w
+  lent-4 = rw (third-put n m k w p q p-length q-length r, next-lent (n + m + k) (n + m + k + l) (p ++ q ++ r) w three-length (omega arith), places (n + m + k) l)
+
+  pub put-4 : (s : List Float) → length w ≡ n + m + k + l → put (n + m + k) (n + m + k + l) (put (n + m) (n + m + k) (put n (n + m) (put 0 n w p) q) r) s ≡ p ++ q ++ r ++ s
+  put-4 s whole =
+      rw (third-put n m k w p q p-length q-length r, next-put (n + m + k) (n + m + k + l) (p ++ q ++ r) w three-length (omega arith) s) (all-put (n + m + k + l) (p ++ q ++ r ++ s) w (omega arith))

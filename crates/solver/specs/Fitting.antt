@@ -29,12 +29,8 @@ pub record LikeX (m n : ℕ) (x : List Float) : Type 0 where
 pub record LikeY (m n : ℕ) (y : List Float) : Type 0 where
   pub is : length y ≡ lengthY m n
 
--- a matrix of these sizes, and a vector that acts as a matrix of one column
+-- a matrix of these sizes
 pub record Sized (rows cols : ℕ) (t : MatType) (mat : List Float) : Type 0 where
   pub rows-are : nRow t ≡ rows
   pub cols-are : nCol t ≡ cols
   pub stored : Stored t mat
-
-pub record Column (rows : ℕ) (v : List Float) : Type 0 where
-  pub within : rows ≤ limit
-  pub is : length v ≡ rows

@@ -9,10 +9,10 @@ ghost use lib.ListN.{length};
 ghost use lib.Ieee.{neg};
 ghost use Rattle.rules.specs.Helpers.{one};
 ghost use Rattle.rules.specs.Vectors.{added, scaled};
-ghost use Rattle.rules.specs.Matrices.{opped, transOpped};
+ghost use Rattle.rules.specs.Matrices.{Stored, opped, transOpped};
 ghost use Rattle.rules.specs.Problem as rules;
 ghost use Rattle.rules.specs.Step.{part, opK, transOpK};
-ghost use Rattle.solver.specs.Fitting.{embedOf, Fits, LikeX, LikeY, Sized, Column};
+ghost use Rattle.solver.specs.Fitting.{embedOf, Fits, LikeX, LikeY, Sized};
 
 // A matrix of one column.
 pub fn column(rows: usize) -> MatType
@@ -58,7 +58,7 @@ fn op_n(
     y_n: &mut [f64],
 )
     requires { ⌜ Sized m n t (now a) ⌝ }
-    requires { ⌜ Column n (now c) ⌝ }
+    requires { ⌜ Stored (rules.column n) (now c) ⌝ }
     requires { ⌜ LikeX m n (now x) ⌝ }
     requires { ⌜ length (now «y_n») ≡ n ⌝ }
     ensures { λ _. ⌜ now («y_n» .exit) ≡ opped (rules.column n) alpha (now (c .entry)) (part (n + m + m) 1 (now (x .entry))) one (transOpped t alpha (now (a .entry)) (part n m (now (x .entry))) beta (now («y_n» .entry))) ⌝ }
@@ -82,7 +82,7 @@ fn op_m(
     y_m: &mut [f64],
 )
     requires { ⌜ Sized m n t (now a) ⌝ }
-    requires { ⌜ Column m (now b) ⌝ }
+    requires { ⌜ Stored (rules.column m) (now b) ⌝ }
     requires { ⌜ LikeX m n (now x) ⌝ }
     requires { ⌜ length (now «y_m») ≡ m ⌝ }
     ensures { λ _. ⌜ now («y_m» .exit) ≡ opped (rules.column m) alpha (now (b .entry)) (part (n + m + m) 1 (now (x .entry))) one (added (neg alpha) (part (n + m) m (now (x .entry))) (opped t (neg alpha) (now (a .entry)) (part 0 n (now (x .entry))) beta (now («y_m» .entry)))) ⌝ }
@@ -96,8 +96,8 @@ fn op_m(
 }
 
 fn op_1(m: usize, n: usize, c: &[f64], b: &[f64], alpha: f64, x: &[f64], beta: f64, y_1: &mut [f64])
-    requires { ⌜ Column n (now c) ⌝ }
-    requires { ⌜ Column m (now b) ⌝ }
+    requires { ⌜ Stored (rules.column n) (now c) ⌝ }
+    requires { ⌜ Stored (rules.column m) (now b) ⌝ }
     requires { ⌜ LikeX m n (now x) ⌝ }
     requires { ⌜ length (now «y_1») ≡ 1 ⌝ }
     ensures { λ _. ⌜ now («y_1» .exit) ≡ transOpped (rules.column m) (neg alpha) (now (b .entry)) (part n m (now (x .entry))) one (transOpped (rules.column n) (neg alpha) (now (c .entry)) (part 0 n (now (x .entry))) beta (now («y_1» .entry))) ⌝ }
@@ -146,7 +146,7 @@ fn trans_x(
     x_x: &mut [f64],
 )
     requires { ⌜ Sized m n t (now a) ⌝ }
-    requires { ⌜ Column n (now c) ⌝ }
+    requires { ⌜ Stored (rules.column n) (now c) ⌝ }
     requires { ⌜ LikeY m n (now y) ⌝ }
     requires { ⌜ length (now «x_x») ≡ n ⌝ }
     ensures { λ _. ⌜ now («x_x» .exit) ≡ opped (rules.column n) (neg alpha) (now (c .entry)) (part (n + m) 1 (now (y .entry))) one (transOpped t (neg alpha) (now (a .entry)) (part n m (now (y .entry))) beta (now («x_x» .entry))) ⌝ }
@@ -169,7 +169,7 @@ fn trans_y(
     x_y: &mut [f64],
 )
     requires { ⌜ Sized m n t (now a) ⌝ }
-    requires { ⌜ Column m (now b) ⌝ }
+    requires { ⌜ Stored (rules.column m) (now b) ⌝ }
     requires { ⌜ LikeY m n (now y) ⌝ }
     requires { ⌜ length (now «x_y») ≡ m ⌝ }
     ensures { λ _. ⌜ now («x_y» .exit) ≡ opped (rules.column m) (neg alpha) (now (b .entry)) (part (n + m) 1 (now (y .entry))) one (opped t alpha (now (a .entry)) (part 0 n (now (y .entry))) beta (now («x_y» .entry))) ⌝ }
@@ -200,8 +200,8 @@ fn trans_tau(
     beta: f64,
     x_tau: &mut [f64],
 )
-    requires { ⌜ Column n (now c) ⌝ }
-    requires { ⌜ Column m (now b) ⌝ }
+    requires { ⌜ Stored (rules.column n) (now c) ⌝ }
+    requires { ⌜ Stored (rules.column m) (now b) ⌝ }
     requires { ⌜ LikeY m n (now y) ⌝ }
     requires { ⌜ length (now «x_tau») ≡ 1 ⌝ }
     ensures { λ _. ⌜ now («x_tau» .exit) ≡ transOpped (rules.column m) alpha (now (b .entry)) (part n m (now (y .entry))) one (transOpped (rules.column n) alpha (now (c .entry)) (part 0 n (now (y .entry))) beta (now («x_tau» .entry))) ⌝ }

@@ -1,9 +1,11 @@
-use borrow.Author.Needs.{needs}
+-- `solver::embed::op` meets its contract.
+use Prim.Native.Nat.{_+_}
 use native.Mathlib.Omega.{arith}
-use Prim.Native.Nat.{ℕ, _+_, _-_, _*_, _≤_, _<_}
-use mathlib.Core.Path.{_≡_, refl, sym, ap, _∙_}
-use lib.ListN.{length, getD, set, length-set}
+use mathlib.Core.Path.{_≡_, _∙_}
 use borrow.Author.Needs.{needs}
+use lib.ListN.{length}
+use Rattle.rules.specs.Step.{opN, opM, op1}
+use Rattle.rules.proofs.Parts.{from-start, lent-2, lent-3, put-3}
 use Rattle.solver.proofs.embed.op.Statement.{statement}
 use Rattle.solver.proofs.embed.op.Tie as tie
 use Rattle.solver.proofs.embed.op.Reads as reads
@@ -64,7 +66,20 @@ same-length : tie.Need-same-length
 same-length c = search needs
 
 returns : tie.Need-returns
-returns c = ?
+unfolding opN opM op1
+returns c =
+    let start = c .before .before .before .before .before .before .before .before .before .before .before .before .before .before .before .before .before in
+    let k = start .args in
+    let w = k .y .now in
+    let p = c .before .before .before .before .before .before .before .before .before .before .op-n .last .1 .1 .1 .1 .1 .1 .1 .1 .0 in
+    let q = c .before .before .before .before .before .before .op-m .last .1 .1 .1 .1 .1 .1 .1 .1 .0 in
+    let r = c .before .before .op-1 .last .1 .1 .1 .1 .1 .1 .1 .0 in
+    let p-length : length p ≡ k .n = omega (arith, start .pre, c .before .before .before .before .before .before .before .before .before .before .op-n .kept, c .before .before .before .before .before .before .before .before .before .before .before .op-n-arg) in
+    let q-length : length q ≡ k .m = omega (arith, start .pre, c .before .before .before .before .before .before .op-m .kept, c .before .before .before .before .before .before .before .op-m-arg) in
+    let first = rw (from-start (k .n)) at (c .before .before .before .before .before .before .before .before .before .before .op-n .ensures) in
+    let second = rw (lent-2 (k .n) (k .m) 1 w p q p-length q-length) at (c .before .before .before .before .before .before .op-m .ensures) in
+    let third = rw (lent-3 (k .n) (k .m) 1 w p q p-length q-length) at (c .before .before .op-1 .ensures) in
+    put-3 (k .n) (k .m) 1 w p q p-length q-length r (omega (arith, start .pre)) ∙ rw (first, second, third)
 
 pub op-spec : {M : Type 1} → statement M
 op-spec =

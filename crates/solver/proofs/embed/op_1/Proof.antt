@@ -1,9 +1,12 @@
-use borrow.Author.Needs.{needs}
+-- `solver::embed::op_1` meets its contract.
+use Prim.Native.Nat.{_+_, _-_}
 use native.Mathlib.Omega.{arith}
-use Prim.Native.Nat.{ℕ, _+_, _-_, _*_, _≤_, _<_}
-use mathlib.Core.Path.{_≡_, refl, sym, ap, _∙_}
-use lib.ListN.{length, getD, set, length-set}
+use mathlib.Core.Path.{_∙_}
 use borrow.Author.Needs.{needs}
+use Rattle.rules.specs.Helpers.{one}
+use Rattle.rules.specs.Step.{part}
+use Rattle.rules.proofs.Kernels.{trans-op-ruled}
+use Rattle.rules.proofs.Parts.{places, from-start}
 use Rattle.solver.proofs.embed.op_1.Statement.{statement}
 use Rattle.solver.proofs.embed.op_1.Tie as tie
 use Rattle.solver.proofs.embed.op_1.Reads as reads
@@ -51,7 +54,13 @@ same-length : tie.Need-same-length
 same-length c = search needs
 
 returns : tie.Need-returns
-returns c = ?
+unfolding one
+returns c =
+    let s = c .before .before .before .before .before .before .before .before .before .before .before .before .before .before .before .before in
+    let k = s .args in
+    let first = trans-op-ruled (part 0 (k .n - 0) (k .x .now)) (rw (c .before .before .before .before .before .before .before .before .before .before .before .column .ensures) at (c .before .before .before .before .before .before .before .before .trans-op .ensures)) (s .pre .0) (omega arith) (omega arith) in
+    let second = trans-op-ruled (part (k .n) (k .n + k .m - k .n) (k .x .now)) (rw (c .before .before .before .before .before .column2 .ensures) at (c .before .before .trans-op2 .ensures)) (s .pre .1 .0) (omega arith) (omega arith) in
+    second ∙ rw (first, from-start (k .n), places (k .n) (k .m))
 
 pub op-1-spec : {M : Type 1} → statement M
 op-1-spec =

@@ -1,9 +1,12 @@
-use borrow.Author.Needs.{needs}
+-- `solver::embed::op_m` meets its contract.
+use Prim.Native.Nat.{_+_, _-_}
 use native.Mathlib.Omega.{arith}
-use Prim.Native.Nat.{ℕ, _+_, _-_, _*_, _≤_, _<_}
-use mathlib.Core.Path.{_≡_, refl, sym, ap, _∙_}
-use lib.ListN.{length, getD, set, length-set}
+use mathlib.Core.Path.{_∙_}
 use borrow.Author.Needs.{needs}
+use Rattle.rules.specs.Helpers.{one}
+use Rattle.rules.specs.Step.{part}
+use Rattle.rules.proofs.Kernels.{add-ruled, op-ruled}
+use Rattle.rules.proofs.Parts.{places, from-start}
 use Rattle.solver.proofs.embed.op_m.Statement.{statement}
 use Rattle.solver.proofs.embed.op_m.Tie as tie
 use Rattle.solver.proofs.embed.op_m.Reads as reads
@@ -70,7 +73,14 @@ same-length : tie.Need-same-length
 same-length c = search needs
 
 returns : tie.Need-returns
-returns c = ?
+unfolding one
+returns c =
+    let s = c .before .before .before .before .before .before .before .before .before .before .before .before .before .before .before .before .before .before .before .before in
+    let k = s .args in
+    let first = op-ruled (part 0 (k .n - 0) (k .x .now)) (c .before .before .before .before .before .before .before .before .before .before .before .before .before .op .ensures) (s .pre .0 .stored) (omega arith) (omega arith) in
+    let second = add-ruled (part (k .n + k .m) (k .n + k .m + k .m - (k .n + k .m)) (k .x .now)) (c .before .before .before .before .before .before .before .before .add .ensures) (omega arith) in
+    let third = op-ruled (part (k .n + k .m + k .m) (k .n + k .m + k .m + 1 - (k .n + k .m + k .m)) (k .x .now)) (rw (c .before .before .before .before .before .column .ensures) at (c .before .before .op2 .ensures)) (s .pre .1 .0) (omega arith) (omega arith) in
+    third ∙ rw (second, first, from-start (k .n), places (k .n + k .m) (k .m), places (k .n + k .m + k .m) 1)
 
 pub op-m-spec : {M : Type 1} → statement M
 op-m-spec =

@@ -1,9 +1,11 @@
-use borrow.Author.Needs.{needs}
+-- `solver::embed::trans_op` meets its contract.
+use Prim.Native.Nat.{_+_}
 use native.Mathlib.Omega.{arith}
-use Prim.Native.Nat.{ℕ, _+_, _-_, _*_, _≤_, _<_}
-use mathlib.Core.Path.{_≡_, refl, sym, ap, _∙_}
-use lib.ListN.{length, getD, set, length-set}
+use mathlib.Core.Path.{_≡_, _∙_}
 use borrow.Author.Needs.{needs}
+use lib.ListN.{length}
+use Rattle.rules.specs.Step.{transX, transY, transS, transTau}
+use Rattle.rules.proofs.Parts.{from-start, lent-2, lent-3, lent-4, put-4}
 use Rattle.solver.proofs.embed.trans_op.Statement.{statement}
 use Rattle.solver.proofs.embed.trans_op.Tie as tie
 use Rattle.solver.proofs.embed.trans_op.Reads as reads
@@ -77,13 +79,29 @@ part-trans-tau-end : tie.Need-part-trans-tau-end
 part-trans-tau-end c = search needs
 
 trans-tau-requires : tie.Need-trans-tau-requires
-trans-tau-requires c κs = search needs
+trans-tau-requires c κs = omega (arith, c .before .before .before .before .before .before .before .before .before .before .before .before .before .before .before .before .before .before .pre, c .trans-tau-arg)
 
 same-length : tie.Need-same-length
-same-length c = search needs
+same-length c = omega (arith, c .before .x4, c .before .before .before .before .before .x3, c .before .before .before .before .before .before .before .before .before .x2, c .before .before .before .before .before .before .before .before .before .before .before .before .before .x)
 
 returns : tie.Need-returns
-returns c = ?
+unfolding transX transY transS transTau
+returns c =
+    let start = c .before .before .before .before .before .before .before .before .before .before .before .before .before .before .before .before .before .before .before .before .before in
+    let k = start .args in
+    let w = k .x .now in
+    let p = c .before .before .before .before .before .before .before .before .before .before .before .before .before .before .trans-x .last .1 .1 .1 .1 .1 .1 .1 .1 .0 in
+    let q = c .before .before .before .before .before .before .before .before .before .before .trans-y .last .1 .1 .1 .1 .1 .1 .1 .1 .0 in
+    let r = c .before .before .before .before .before .before .trans-s .last .1 .1 .1 .1 .1 .0 in
+    let start = c .before .before .trans-tau .last .1 .1 .1 .1 .1 .1 .1 .0 in
+    let p-length : length p ≡ k .n = omega (arith, start .pre, c .before .before .before .before .before .before .before .before .before .before .before .before .before .before .trans-x .kept, c .before .before .before .before .before .before .before .before .before .before .before .before .before .before .before .trans-x-arg) in
+    let q-length : length q ≡ k .m = omega (arith, start .pre, c .before .before .before .before .before .before .before .before .before .before .trans-y .kept, c .before .before .before .before .before .before .before .before .before .before .before .trans-y-arg) in
+    let r-length : length r ≡ k .m = omega (arith, start .pre, c .before .before .before .before .before .before .trans-s .kept, c .before .before .before .before .before .before .before .trans-s-arg) in
+    let first = rw (from-start (k .n)) at (c .before .before .before .before .before .before .before .before .before .before .before .before .before .before .trans-x .ensures) in
+    let second = rw (lent-2 (k .n) (k .m) (k .m) w p q p-length q-length) at (c .before .before .before .before .before .before .before .before .before .before .trans-y .ensures) in
+    let third = rw (lent-3 (k .n) (k .m) (k .m) w p q p-length q-length) at (c .before .before .before .before .before .before .trans-s .ensures) in
+    let fourth = rw (lent-4 (k .n) (k .m) (k .m) 1 w p q r p-length q-length r-length) at (c .before .before .trans-tau .ensures) in
+    put-4 (k .n) (k .m) (k .m) 1 w p q r p-length q-length r-length last (omega (arith, start .pre)) ∙ rw (first, second, third, fourth)
 
 pub trans-op-spec : {M : Type 1} → statement M
 trans-op-spec =

@@ -1,9 +1,11 @@
-use borrow.Author.Needs.{needs}
+-- `solver::embed::trans_s` meets its contract.
+use Prim.Native.Nat.{_+_, _-_}
 use native.Mathlib.Omega.{arith}
-use Prim.Native.Nat.{ℕ, _+_, _-_, _*_, _≤_, _<_}
-use mathlib.Core.Path.{_≡_, refl, sym, ap, _∙_}
-use lib.ListN.{length, getD, set, length-set}
+use mathlib.Core.Path.{_∙_}
 use borrow.Author.Needs.{needs}
+use Rattle.rules.specs.Step.{part}
+use Rattle.rules.proofs.Kernels.{add-ruled}
+use Rattle.rules.proofs.Parts.{places}
 use Rattle.solver.proofs.embed.trans_s.Statement.{statement}
 use Rattle.solver.proofs.embed.trans_s.Tie as tie
 use Rattle.solver.proofs.embed.trans_s.Reads as reads
@@ -36,7 +38,12 @@ same-length : tie.Need-same-length
 same-length c = search needs
 
 returns : tie.Need-returns
-returns c = ?
+returns c =
+    let s = c .before .before .before .before .before .before .before .before .before .before .before in
+    let k = s .args in
+    let first = c .before .before .before .before .before .before .before .scale .ensures in
+    let second = add-ruled (part (k .n) (k .n + k .m - k .n) (k .y .now)) (c .before .before .add .ensures) (omega arith) in
+    second ∙ rw (first, places (k .n) (k .m))
 
 pub trans-s-spec : {M : Type 1} → statement M
 trans-s-spec =

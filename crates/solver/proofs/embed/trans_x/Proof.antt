@@ -1,9 +1,12 @@
-use borrow.Author.Needs.{needs}
+-- `solver::embed::trans_x` meets its contract.
+use Prim.Native.Nat.{_+_, _-_}
 use native.Mathlib.Omega.{arith}
-use Prim.Native.Nat.{ℕ, _+_, _-_, _*_, _≤_, _<_}
-use mathlib.Core.Path.{_≡_, refl, sym, ap, _∙_}
-use lib.ListN.{length, getD, set, length-set}
+use mathlib.Core.Path.{_∙_}
 use borrow.Author.Needs.{needs}
+use Rattle.rules.specs.Helpers.{one}
+use Rattle.rules.specs.Step.{part}
+use Rattle.rules.proofs.Kernels.{op-ruled, trans-op-ruled}
+use Rattle.rules.proofs.Parts.{places}
 use Rattle.solver.proofs.embed.trans_x.Statement.{statement}
 use Rattle.solver.proofs.embed.trans_x.Tie as tie
 use Rattle.solver.proofs.embed.trans_x.Reads as reads
@@ -55,7 +58,13 @@ same-length : tie.Need-same-length
 same-length c = search needs
 
 returns : tie.Need-returns
-returns c = ?
+unfolding one
+returns c =
+    let s = c .before .before .before .before .before .before .before .before .before .before .before .before .before .before .before in
+    let k = s .args in
+    let first = trans-op-ruled (part (k .n) (k .n + k .m - k .n) (k .y .now)) (c .before .before .before .before .before .before .before .before .trans-op .ensures) (s .pre .0 .stored) (omega arith) (omega arith) in
+    let second = op-ruled (part (k .n + k .m) (k .n + k .m + 1 - (k .n + k .m)) (k .y .now)) (rw (c .before .before .before .before .before .column .ensures) at (c .before .before .op .ensures)) (s .pre .1 .0) (omega arith) (omega arith) in
+    second ∙ rw (first, places (k .n) (k .m), places (k .n + k .m) 1)
 
 pub trans-x-spec : {M : Type 1} → statement M
 trans-x-spec =

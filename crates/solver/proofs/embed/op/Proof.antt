@@ -8,11 +8,6 @@ use Rattle.rules.specs.Step.{opN, opM, op1}
 use Rattle.rules.proofs.Parts.{from-start, lent-2, lent-3, put-3}
 use Rattle.solver.proofs.embed.op.Statement.{statement}
 use Rattle.solver.proofs.embed.op.Tie as tie
-use Rattle.solver.proofs.embed.op.Reads as reads
-use Rattle.solver.proofs.embed.op.Lts as lts
-use Rattle.solver.proofs.embed.op_1.Reads as op-1-reads
-use Rattle.solver.proofs.embed.op_m.Reads as op-m-reads
-use Rattle.solver.proofs.embed.op_n.Reads as op-n-reads
 
 add-nm : tie.Need-add-nm
 add-nm c = search needs

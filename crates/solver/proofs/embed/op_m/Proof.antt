@@ -9,11 +9,6 @@ use Rattle.rules.proofs.Kernels.{add-ruled, op-ruled}
 use Rattle.rules.proofs.Parts.{places, from-start}
 use Rattle.solver.proofs.embed.op_m.Statement.{statement}
 use Rattle.solver.proofs.embed.op_m.Tie as tie
-use Rattle.solver.proofs.embed.op_m.Reads as reads
-use Rattle.solver.proofs.embed.op_m.Lts as lts
-use Rattle.linalg.proofs.add.Reads as add-reads
-use Rattle.matop.proofs.op.Reads as op-reads
-use Rattle.solver.proofs.embed.column.Reads as column-reads
 
 add-nm : tie.Need-add-nm
 add-nm c = search needs

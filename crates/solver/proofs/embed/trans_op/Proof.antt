@@ -8,12 +8,6 @@ use Rattle.rules.specs.Step.{transX, transY, transS, transTau}
 use Rattle.rules.proofs.Parts.{from-start, lent-2, lent-3, lent-4, put-4}
 use Rattle.solver.proofs.embed.trans_op.Statement.{statement}
 use Rattle.solver.proofs.embed.trans_op.Tie as tie
-use Rattle.solver.proofs.embed.trans_op.Reads as reads
-use Rattle.solver.proofs.embed.trans_op.Lts as lts
-use Rattle.solver.proofs.embed.trans_s.Reads as trans-s-reads
-use Rattle.solver.proofs.embed.trans_tau.Reads as trans-tau-reads
-use Rattle.solver.proofs.embed.trans_x.Reads as trans-x-reads
-use Rattle.solver.proofs.embed.trans_y.Reads as trans-y-reads
 
 add-nm : tie.Need-add-nm
 add-nm c = search needs
@@ -93,7 +87,7 @@ returns c =
     let p = c .before .before .before .before .before .before .before .before .before .before .before .before .before .before .trans-x .last .1 .1 .1 .1 .1 .1 .1 .1 .0 in
     let q = c .before .before .before .before .before .before .before .before .before .before .trans-y .last .1 .1 .1 .1 .1 .1 .1 .1 .0 in
     let r = c .before .before .before .before .before .before .trans-s .last .1 .1 .1 .1 .1 .0 in
-    let start = c .before .before .trans-tau .last .1 .1 .1 .1 .1 .1 .1 .0 in
+    let s = c .before .before .trans-tau .last .1 .1 .1 .1 .1 .1 .1 .0 in
     let p-length : length p ≡ k .n = omega (arith, start .pre, c .before .before .before .before .before .before .before .before .before .before .before .before .before .before .trans-x .kept, c .before .before .before .before .before .before .before .before .before .before .before .before .before .before .before .trans-x-arg) in
     let q-length : length q ≡ k .m = omega (arith, start .pre, c .before .before .before .before .before .before .before .before .before .before .trans-y .kept, c .before .before .before .before .before .before .before .before .before .before .before .trans-y-arg) in
     let r-length : length r ≡ k .m = omega (arith, start .pre, c .before .before .before .before .before .before .trans-s .kept, c .before .before .before .before .before .before .before .trans-s-arg) in
@@ -101,7 +95,7 @@ returns c =
     let second = rw (lent-2 (k .n) (k .m) (k .m) w p q p-length q-length) at (c .before .before .before .before .before .before .before .before .before .before .trans-y .ensures) in
     let third = rw (lent-3 (k .n) (k .m) (k .m) w p q p-length q-length) at (c .before .before .before .before .before .before .trans-s .ensures) in
     let fourth = rw (lent-4 (k .n) (k .m) (k .m) 1 w p q r p-length q-length r-length) at (c .before .before .trans-tau .ensures) in
-    put-4 (k .n) (k .m) (k .m) 1 w p q r p-length q-length r-length last (omega (arith, start .pre)) ∙ rw (first, second, third, fourth)
+    put-4 (k .n) (k .m) (k .m) 1 w p q r p-length q-length r-length s (omega (arith, start .pre)) ∙ rw (first, second, third, fourth)
 
 pub trans-op-spec : {M : Type 1} → statement M
 trans-op-spec =

@@ -8,10 +8,6 @@ use Rattle.rules.proofs.Kernels.{add-ruled}
 use Rattle.rules.proofs.Parts.{places}
 use Rattle.solver.proofs.embed.trans_s.Statement.{statement}
 use Rattle.solver.proofs.embed.trans_s.Tie as tie
-use Rattle.solver.proofs.embed.trans_s.Reads as reads
-use Rattle.solver.proofs.embed.trans_s.Lts as lts
-use Rattle.linalg.proofs.add.Reads as add-reads
-use Rattle.linalg.proofs.scale.Reads as scale-reads
 
 add-nm : tie.Need-add-nm
 add-nm c = search needs

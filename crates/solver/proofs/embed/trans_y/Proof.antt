@@ -9,10 +9,6 @@ use Rattle.rules.proofs.Kernels.{op-ruled}
 use Rattle.rules.proofs.Parts.{places, from-start}
 use Rattle.solver.proofs.embed.trans_y.Statement.{statement}
 use Rattle.solver.proofs.embed.trans_y.Tie as tie
-use Rattle.solver.proofs.embed.trans_y.Reads as reads
-use Rattle.solver.proofs.embed.trans_y.Lts as lts
-use Rattle.matop.proofs.op.Reads as op-reads
-use Rattle.solver.proofs.embed.column.Reads as column-reads
 
 add-nm : tie.Need-add-nm
 add-nm c = search needs

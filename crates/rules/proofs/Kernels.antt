@@ -1,4 +1,4 @@
--- Laws of the kernels for their callers: what their sizes ask, and that they keep a length.
+-- Laws of the kernels for their callers: where the sizes fit the rule holds, and the length is kept.
 use Prim.Native.Nat.{ℕ}
 use mathlib.Core.Path.{_≡_}
 use mathlib.Core.Bool.{Bool, true, false, cond}
@@ -14,9 +14,8 @@ use Rattle.rules.proofs.Arithmetic.{each-length}
 use Rattle.rules.proofs.Outcome.{ruled-if-fits}
 use Rattle.rules.proofs.Matrices.{fits-if-stored}
 
--- ---- sizes that fit
+-- ---- what a caller whose sizes fit learns
 
--- what a caller whose sizes fit learns
 module _ {y ruled : List Float} {answer : Bool} {after : List Float} where
   pub op-ruled : {t : MatType} {mat : List Float} (x : List Float) → Outcome (opFits t mat x y) ruled y answer after → Stored t mat → length x ≡ nCol t → length y ≡ nRow t → after ≡ ruled
   op-ruled {t} x o s h k = ruled-if-fits o (rw (fits-if-stored s, eq-eqb (length x) (nCol t) h) (eq-eqb (length y) (nRow t) k))

@@ -1,12 +1,13 @@
--- Laws of a buffer whose parts are lent in turn, one after another from the front: each part lent is still the original's, and the new parts make the whole.
+-- Laws of a buffer of which a part is lent and comes back, and of parts that are lent in turn from the front until all are new.
 use Prim.Native.Nat.{ℕ, _+_, _-_, _≤_}
 use native.Mathlib.Nat.{add-sub-cancel-left}
 use native.Mathlib.Omega.{arith}
-use mathlib.Core.Path.{_≡_, refl, sym, ap, _∙_}
+use mathlib.Core.Path.{_≡_, sym, ap, _∙_}
 use mathlib.Core.List.{List, _++_, append-assoc, append-nil}
 use lib.Ieee.{Float}
-use lib.ListN.{length, take, drop, length-append, length-take, length-drop, drop-of-length-le}
-use lib.Seq.{take-at, drop-at, drop-drop, length-take-le}
+use lib.ListN.{length, take, drop, length-append, length-drop, take-append-drop, drop-of-length-le}
+use lib.Seq.{take-at, drop-at, take-append-le, drop-append-le, drop-drop, length-take-le}
+use borrow.Rule.Slice.PartMut.{drop-put}
 use Rattle.rules.specs.Step.{part}
 
 -- what a list is after the part from place a to place e was lent and came back as ys
@@ -28,7 +29,37 @@ drop-rest a e w h =
     let i : a + (e - a) ≡ e = omega arith in
     rw (drop-drop (e - a) a w, i)
 
--- The list is new up to place a. Then the part that is lent is the original's, and when it comes back the list is new up to place e.
+-- ---- any part: it comes back new, and a part that shares no place with it stays
+
+part-in-front : (b k : ℕ) (u v : List Float) → b + k ≤ length u → part b k (u ++ v) ≡ part b k u
+part-in-front b k u v h =
+    let l : k ≤ length (drop b u) = rw length-drop (omega arith) in
+    rw (drop-append-le b u v (omega arith), take-append-le k (drop b u) v l)
+
+module _ (a e : ℕ) (w ys : List Float) (fits : a ≤ e) (inside : e ≤ length w) (as-many : length ys ≡ e - a) where
+  front-length : length (take a w) ≡ a
+  front-length = length-take-le a w (omega arith)
+
+  pub put-length : length (put a e w ys) ≡ length w
+  put-length = simp (length-append, length-drop, front-length, as-many) (omega arith)
+
+  pub put-part : part a (e - a) (put a e w ys) ≡ ys
+  put-part = rw (drop-at (take a w) (ys ++ drop (e - a) (drop a w)) a front-length) (take-at ys (drop (e - a) (drop a w)) (e - a) as-many)
+
+  pub part-before : (b k : ℕ) → b + k ≤ a → part b k (put a e w ys) ≡ part b k w
+  part-before b k h =
+      let l : b + k ≤ length (take a w) = rw front-length h in
+      let old : part b k (take a w ++ drop a w) ≡ part b k (take a w) = part-in-front b k (take a w) (drop a w) l in
+      part-in-front b k (take a w) (ys ++ drop (e - a) (drop a w)) l ∙ sym (rw (take-append-drop a w) at old)
+
+  pub part-after : (b k : ℕ) → e ≤ b → part b k (put a e w ys) ≡ part b k w
+  part-after b k h =
+      let end : drop e (put a e w ys) ≡ drop e w = drop-put a e w ys fits inside as-many in
+      rw (← drop-rest e b (put a e w ys) h, end, drop-rest e b w h)
+
+-- ---- parts from the front, one after another
+
+-- The list is new up to place a. Then the part up to e that is lent is the original's, and when it comes back the list is new up to e.
 module _ (a e : ℕ) (new w : List Float) (new-to : length new ≡ a) (fits : a ≤ e) where
   pub next-lent : take (e - a) (drop a (new ++ drop a w)) ≡ take (e - a) (drop a w)
   next-lent = ap (take (e - a)) (drop-at new (drop a w) a new-to)

@@ -1,5 +1,4 @@
 -- `solver::embed::trans_op` meets its contract.
-use Prim.Native.Nat.{_+_}
 use native.Mathlib.Omega.{arith}
 use mathlib.Core.Path.{_≡_, _∙_}
 use borrow.Author.Needs.{needs}

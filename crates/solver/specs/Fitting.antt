@@ -9,7 +9,7 @@ use Rattle.rules.specs.declared.MatType.{MatType}
 use Rattle.rules.specs.declared.SolverParam.{SolverParam}
 use Rattle.rules.specs.declared.Storage.{Storage}
 use Rattle.rules.specs.Limits.{limit}
-use Rattle.rules.specs.Matrices.{nRow, nCol, storedLength}
+use Rattle.rules.specs.Matrices.{nRow, nCol, storedLength, Stored}
 use Rattle.rules.specs.Blocks.{hasBadWord, totalPlaces}
 use Rattle.rules.specs.Projections.{sweepsFit}
 use Rattle.rules.specs.Product.{coneWork}
@@ -54,3 +54,9 @@ pub record Ready (p : Problem) : Type 0 where
 -- cone work, as much as is required
 pub record Needed (p : Problem) (cone : List Float) : Type 0 where
   pub is : length cone ≡ coneWork (blocks p)
+
+-- a matrix of these sizes
+pub record Sized (rows cols : ℕ) (t : MatType) (mat : List Float) : Type 0 where
+  pub rows-are : nRow t ≡ rows
+  pub cols-are : nCol t ≡ cols
+  pub stored : Stored t mat

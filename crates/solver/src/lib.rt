@@ -1,5 +1,2 @@
 // The solver.
-mod criteria;
 mod embed;
-mod prepare;
-mod update;

@@ -3,7 +3,6 @@
 use rules::Cols;
 use rules::MatType;
 use rules::Rows;
-use rules::Storage;
 ghost use Prim.Native.Nat.{_+_};
 ghost use mathlib.Core.Path.{_≡_};
 ghost use lib.ListN.{length};
@@ -20,16 +19,6 @@ pub fn column(rows: usize) -> MatType
     ensures { λ r. ⌜ r ≡ rules.column rows ⌝ }
 {
     MatType::General(Rows(rows), Cols(1))
-}
-
-// The matrix, by how it is stored.
-pub fn matrix_of(storage: Storage, m: usize, n: usize) -> MatType
-    ensures { λ r. ⌜ r ≡ rules.matrixOf storage m n ⌝ }
-{
-    match storage {
-        Storage::Dense => MatType::General(Rows(m), Cols(n)),
-        Storage::Packed => MatType::SymPack(Rows(m)),
-    }
 }
 
 // y becomes alpha * K * x + beta * y.

@@ -1,2 +1,3 @@
 // The solver.
 mod embed;
+mod shape;

@@ -1,3 +1,4 @@
 // The solver.
 mod embed;
 mod shape;
+mod update;

@@ -1,3 +1,4 @@
 // The solver.
+mod criteria;
 mod embed;
 mod shape;

@@ -2,3 +2,4 @@
 mod criteria;
 mod embed;
 mod shape;
+mod verdict;

@@ -1,4 +1,6 @@
 // The solver.
+mod criteria;
 mod embed;
 mod shape;
 mod update;
+mod verdict;

@@ -1,3 +1,4 @@
 // The solver.
 mod embed;
+mod prepare;
 mod shape;

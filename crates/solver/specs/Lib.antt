@@ -1,3 +1,4 @@
 pub mod Fitting
 pub mod Update
 pub mod Verdict
+pub mod Preparing

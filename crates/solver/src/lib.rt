@@ -1,6 +1,7 @@
 // The solver.
 mod criteria;
 mod embed;
+mod prepare;
 mod shape;
 mod update;
 mod verdict;

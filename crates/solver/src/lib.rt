@@ -1,3 +1,4 @@
 // The solver.
+mod checks;
 mod embed;
 mod shape;

@@ -1,2 +1,3 @@
 pub mod Finite
 pub mod Refused
+pub mod Parted

@@ -1,4 +1,8 @@
 // The solver.
 mod checks;
 mod embed;
+mod parts;
 mod shape;
+
+pub use parts::solution_x;
+pub use parts::solution_y;

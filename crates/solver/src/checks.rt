@@ -8,13 +8,12 @@ use rules::Storage;
 use rules::WORDS;
 ghost use Prim.Native.Nat.{_≤_};
 ghost use mathlib.Core.Path.{_≡_};
-ghost use lib.ListN.{length};
 ghost use Rattle.rules.specs.Limits.{limit};
-ghost use Rattle.rules.specs.Refusals.{isFinite, allFinite, badParam, tooLarge, invalidOp, notFinite, workShortage, refusal};
+ghost use Rattle.rules.specs.Refusals.{isFinite, allFinite, badParam, refusal};
 ghost use Rattle.solver.specs.Fitting.{problemOf};
-ghost use Rattle.solver.specs.Check.{asRefusal};
+ghost use Rattle.solver.specs.Check.{asRefusal, largeSizes, wrongLengths, someInfinite, shortBuffers};
 
-pub enum Check {
+pub enum Checked {
     Accepted,
     Refused(Ending),
 }
@@ -31,28 +30,28 @@ pub fn check(
     words: &[u16],
     work: usize,
     cone_work: usize,
-) -> Check
+) -> Checked
     ensures { λ r. ⌜ asRefusal r ≡ refusal (problemOf m n storage (now (c .entry)) (now (a .entry)) (now (b .entry)) (now (words .entry)) par) work «cone_work» ⌝ }
 {
     if bad_param(par) {
-        return Check::Refused(Ending::BadParam);
+        return Checked::Refused(Ending::BadParam);
     }
     if too_large(m, n, words) {
-        return Check::Refused(Ending::TooLarge);
+        return Checked::Refused(Ending::TooLarge);
     }
     if invalid_op(m, n, storage, c, a, b) {
-        return Check::Refused(Ending::InvalidOp);
+        return Checked::Refused(Ending::InvalidOp);
     }
     if cone::is_bad_cone(words, m) {
-        return Check::Refused(Ending::BadCone);
+        return Checked::Refused(Ending::BadCone);
     }
     if not_finite(c, a, b) {
-        return Check::Refused(Ending::NotFinite);
+        return Checked::Refused(Ending::NotFinite);
     }
     if work_shortage(m, n, words, work, cone_work) {
-        return Check::Refused(Ending::WorkShortage);
+        return Checked::Refused(Ending::WorkShortage);
     }
-    Check::Accepted
+    Checked::Accepted
 }
 
 fn is_finite(x: f64) -> bool
@@ -86,7 +85,9 @@ fn bad_param(par: SolverParam) -> bool
     par.sweep_limit > SWEEPS
 }
 
-fn too_large(m: usize, n: usize, words: &[u16]) -> bool {
+fn too_large(m: usize, n: usize, words: &[u16]) -> bool
+    ensures { λ r. ⌜ r ≡ largeSizes m n (now (words .entry)) ⌝ }
+{
     if n > LIMIT {
         return true;
     }
@@ -98,6 +99,7 @@ fn too_large(m: usize, n: usize, words: &[u16]) -> bool {
 
 fn invalid_op(m: usize, n: usize, storage: Storage, c: &[f64], a: &[f64], b: &[f64]) -> bool
     requires { ⌜ (m ≤ limit) × (n ≤ limit) ⌝ }
+    ensures { λ r. ⌜ r ≡ wrongLengths m n storage (now (c .entry)) (now (a .entry)) (now (b .entry)) ⌝ }
 {
     if c.len() != n {
         return true;
@@ -116,7 +118,9 @@ fn invalid_op(m: usize, n: usize, storage: Storage, c: &[f64], a: &[f64], b: &[f
     }
 }
 
-fn not_finite(c: &[f64], a: &[f64], b: &[f64]) -> bool {
+fn not_finite(c: &[f64], a: &[f64], b: &[f64]) -> bool
+    ensures { λ r. ⌜ r ≡ someInfinite (now (c .entry)) (now (a .entry)) (now (b .entry)) ⌝ }
+{
     if !all_finite(c) {
         return true;
     }
@@ -139,6 +143,7 @@ fn all_finite(v: &[f64]) -> bool
 
 fn work_shortage(m: usize, n: usize, words: &[u16], work: usize, cone_work: usize) -> bool
     requires { ⌜ (m ≤ limit) × (n ≤ limit) ⌝ }
+    ensures { λ r. ⌜ r ≡ shortBuffers m n (now (words .entry)) work «cone_work» ⌝ }
 {
     if work < 6 * n + 10 * m + 6 {
         return true;

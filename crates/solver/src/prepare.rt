@@ -1,6 +1,7 @@
 // What stands before the first step: calc_norms, init_vecs, calc_precond of solver.rs.
 use crate::embed::column;
 use crate::shape;
+use crate::shape::Norms;
 use rules::MatType;
 use rules::SolverParam;
 use rules::Storage;
@@ -19,12 +20,6 @@ ghost use Rattle.rules.specs.Prepare as rules;
 ghost use Rattle.rules.specs.Prepare.{columnIn, withB, withC, frNorm, norms, dpTauOf, dpSigmaOf};
 ghost use Rattle.solver.specs.Fitting.{embedOf, problemOf, Fits, LikeX, LikeY, Ready};
 ghost use Rattle.solver.specs.Preparing.{columnSums, rowSums, rowsOf, groupedParts, Grouping};
-
-// The Frobenius norms of b and c.
-pub struct Norms {
-    pub b: f64,
-    pub c: f64,
-}
 
 // The norms of b, then c, worked out at the front of x.
 pub fn calc_norms(

@@ -21,4 +21,6 @@ pub mod Matrices
 pub mod Blocks
 pub mod Projections
 pub mod ConeProduct
+pub mod Kernels
+pub mod Parts
 pub mod WorkedByHand

@@ -1,0 +1,12 @@
+// The solver: an entry point that checks for itself, and the two routines that hand back x and y.
+mod checks;
+mod criteria;
+mod embed;
+mod parts;
+mod prepare;
+mod shape;
+mod update;
+mod verdict;
+
+pub use parts::solution_x;
+pub use parts::solution_y;

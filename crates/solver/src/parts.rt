@@ -1,0 +1,113 @@
+// The pieces of work: where x and y stand, how a run's vectors come into it, and eps_zero as it is read.
+use rules::Cols;
+use rules::Rows;
+use rules::SolverParam;
+ghost use Prim.Native.Nat.{_+_, _≤_};
+ghost use mathlib.Core.Path.{_≡_};
+ghost use mathlib.Core.List.{_++_};
+ghost use lib.ListN.{length, drop};
+ghost use Rattle.rules.specs.Problem.{asRead};
+ghost use Rattle.rules.specs.Prepare.{zeros};
+ghost use Rattle.solver.specs.Fitting.{LikeX};
+ghost use Rattle.solver.specs.Solution.{solutionX, solutionY, finishedX, copiedTo};
+
+// The first places of work; none where it is too short.
+pub fn solution_x(work: &[f64], cols: Cols) -> &[f64]
+    ensures { λ r. ⌜ now r ≡ solutionX (cols .0) (now (work .entry)) ⌝ }
+{
+    let n = cols.0;
+    if n <= work.len() {
+        &work[0..n]
+    } else {
+        &work[..0]
+    }
+}
+
+// The places of work after x; none where it is too short to hold x and them.
+pub fn solution_y(work: &[f64], rows: Rows, cols: Cols) -> &[f64]
+    ensures { λ r. ⌜ now r ≡ solutionY (rows .0) (cols .0) (now (work .entry)) ⌝ }
+{
+    let m = rows.0;
+    let n = cols.0;
+    if n <= work.len() {
+        if m <= work.len() - n {
+            &work[n..n + m]
+        } else {
+            &work[..0]
+        }
+    } else {
+        &work[..0]
+    }
+}
+
+// An eps_zero of -0 is read as +0.
+pub fn read_eps(par: SolverParam) -> SolverParam
+    ensures { λ r. ⌜ r ≡ asRead par ⌝ }
+{
+    if par.eps_zero == 0.0 {
+        return SolverParam {
+            max_iter: par.max_iter,
+            eps_acc: par.eps_acc,
+            eps_inf: par.eps_inf,
+            eps_zero: 0.0,
+            sweep_limit: par.sweep_limit,
+        };
+    }
+    par
+}
+
+// x and y over tau, where the ending asks for it.
+pub fn finish(m: usize, n: usize, by_tau: bool, x: &mut [f64])
+    requires { ⌜ LikeX m n (now x) ⌝ }
+    ensures { λ _. ⌜ now (x .exit) ≡ finishedX m n «by_tau» (now (x .entry)) ⌝ }
+{
+    if by_tau {
+        let nm = n + m;
+        let by = float::reciprocal(x[nm + m]);
+        linalg::scale(by, &mut x[0..n]);
+        linalg::scale(by, &mut x[n..nm]);
+    }
+}
+
+// The six vectors of a run, one after another at the front of work.
+pub fn lay_out(
+    x: &[f64],
+    y: &[f64],
+    dp_tau: &[f64],
+    dp_sigma: &[f64],
+    rx: &[f64],
+    tx: &[f64],
+    work: &mut [f64],
+)
+    requires { ⌜ length (now x) + length (now y) + length (now «dp_tau») + length (now «dp_sigma») + length (now rx) + length (now tx) ≤ length (now work) ⌝ }
+    ensures { λ _. ⌜ now (work .exit) ≡ now (x .entry) ++ now (y .entry) ++ now («dp_tau» .entry) ++ now («dp_sigma» .entry) ++ now (rx .entry) ++ now (tx .entry) ++ drop (length (now (x .entry)) + length (now (y .entry)) + length (now («dp_tau» .entry)) + length (now («dp_sigma» .entry)) + length (now (rx .entry)) + length (now (tx .entry))) (now (work .entry)) ⌝ }
+{
+    let to_y = x.len();
+    let to_tau = to_y + y.len();
+    let to_sigma = to_tau + dp_tau.len();
+    let to_rx = to_sigma + dp_sigma.len();
+    let to_tx = to_rx + rx.len();
+    copy_to(x, 0, work);
+    copy_to(y, to_y, work);
+    copy_to(dp_tau, to_tau, work);
+    copy_to(dp_sigma, to_sigma, work);
+    copy_to(rx, to_rx, work);
+    copy_to(tx, to_tx, work);
+}
+
+fn copy_to(v: &[f64], start: usize, work: &mut [f64])
+    requires { ⌜ start + length (now v) ≤ length (now work) ⌝ }
+    ensures { λ _. ⌜ now (work .exit) ≡ copiedTo start (now (v .entry)) (now (work .entry)) ⌝ }
+{
+    let end = start + v.len();
+    linalg::copy(v, &mut work[start..end]);
+}
+
+// Every place becomes +0.
+pub fn clear(v: &mut [f64])
+    ensures { λ _. ⌜ now (v .exit) ≡ zeros (length (now (v .entry))) ⌝ }
+{
+    for k in 0..v.len() {
+        v[k] = 0.0;
+    }
+}

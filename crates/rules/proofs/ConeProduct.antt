@@ -4,10 +4,10 @@ use native.Mathlib.Nat.{mul-le-mul, add-assoc, zero-add, add-zero}
 use native.Mathlib.Numerals.{add-one}
 use native.Mathlib.Omega.{arith}
 use mathlib.Core.Path.{_≡_, refl, sym, _∙_, ap}
-use mathlib.Core.Bool.{Bool, true, false, cond, not, _&&_}
+use mathlib.Core.Bool.{Bool, true, false, cond, not, _&&_, _||_}
 use mathlib.Core.List.{List, [], _∷_, _++_, append-assoc}
 use borrow.Author.Tests.{leb-true, leb-false, not-true, eq-eqb, le-leb}
-use lib.Dec.{leb}
+use lib.Dec.{leb, eqb}
 use lib.Ieee.{Float}
 use lib.ListN.{length, getD, take, drop, take-append-drop, length-append, length-drop}
 use lib.Seq.{take-at, drop-at, length-take-le}
@@ -21,7 +21,7 @@ use Rattle.rules.specs.declared.SolverParam.{SolverParam}
 use Rattle.rules.specs.Limits.{limit, mostPlaces}
 use Rattle.rules.specs.Arithmetic.{at, each}
 use Rattle.rules.specs.Helpers.{smaller}
-use Rattle.rules.specs.Blocks.{readWord, blocksOf, places, isBadCone}
+use Rattle.rules.specs.Blocks.{readWord, blocksOf, places, hasBadWord, totalPlaces, isBadCone}
 use Rattle.rules.specs.Projections.{Projected, projBlock, blockWork, sweepsFit, blockFits, answerOf, BlockOutcome}
 use Rattle.rules.specs.Product.{Failure, none, block, oneLater, Passed, projAll, smallestTo, grouped, groupBlock, groupAll, coneWork, blocksWithin, sumsFit, listFits, productFits, ProductOutcome}
 use Rattle.rules.specs.Demands.{pairsTwice}
@@ -66,6 +66,21 @@ module _ (words : List ℕ) (i : ℕ) (h : i < length words) where
 pub within-end : (words : List ℕ) (i : ℕ) → length words ≤ i → blocksWithin (blocksOf (drop i words)) ≡ true
 unfolding blocksWithin
 within-end words i h = rw (blocks-end words i h)
+
+-- blocks whose places sum to no more than the limit
+blocks-within : (bs : List Cone) → totalPlaces bs ≤ limit → blocksWithin bs ≡ true
+unfolding blocksWithin totalPlaces
+blocks-within [] h = refl
+blocks-within (b ∷ bs) h = rw (le-leb (places b) limit (omega arith)) (blocks-within bs (omega arith))
+
+-- so a list without a bad word, whose blocks have all of so many places, fits
+pub sums-fit : (words : List ℕ) (len : ℕ) → hasBadWord words ≡ false → totalPlaces (blocksOf words) ≡ len → len ≤ limit → sumsFit words len ≡ true
+unfolding isBadCone
+sums-fit words len e f h =
+    all-hold (hasBadWord words) (eqb (totalPlaces (blocksOf words)) len) (blocksWithin (blocksOf words)) e (eq-eqb (totalPlaces (blocksOf words)) len f) (blocks-within (blocksOf words) (omega arith))
+  where
+    all-hold : (s t u : Bool) → s ≡ false → t ≡ true → u ≡ true → (not (s || not t) && u) ≡ true
+    all-hold s t u e f g = rw (e, f, g)
 
 -- ---- a walk: before word i, a of len places lie behind
 

@@ -9,7 +9,7 @@ use lib.ListN.{length}
 use Rattle.rules.specs.declared.MatType.{MatType}
 use Rattle.rules.specs.Outcome.{Outcome}
 use Rattle.rules.specs.Vectors.{sameLength, scaled, added}
-use Rattle.rules.specs.Matrices.{nRow, nCol, isEmpty, entry, flipped, Stored, opFits, transOpFits, transformed, opped, transOpped}
+use Rattle.rules.specs.Matrices.{nRow, nCol, isEmpty, entry, flipped, Stored, opFits, transOpFits, colsFit, rowsFit, transformed, opped, transOpped}
 use Rattle.rules.proofs.Arithmetic.{each-length}
 use Rattle.rules.proofs.Outcome.{ruled-if-fits}
 use Rattle.rules.proofs.Matrices.{fits-if-stored}
@@ -25,6 +25,12 @@ module _ {y ruled : List Float} {answer : Bool} {after : List Float} where
 
   pub add-ruled : (x : List Float) → Outcome (sameLength x y) ruled y answer after → length x ≡ length y → after ≡ ruled
   add-ruled x o h = ruled-if-fits o (eq-eqb (length x) (length y) h)
+
+  pub cols-ruled : {t : MatType} {mat : List Float} → Outcome (colsFit t mat y) ruled y answer after → Stored t mat → length y ≡ nCol t → after ≡ ruled
+  cols-ruled {t} o s h = ruled-if-fits o (rw (fits-if-stored s) (eq-eqb (length y) (nCol t) h))
+
+  pub rows-ruled : {t : MatType} {mat : List Float} → Outcome (rowsFit t mat y) ruled y answer after → Stored t mat → length y ≡ nRow t → after ≡ ruled
+  rows-ruled {t} o s h = ruled-if-fits o (rw (fits-if-stored s) (eq-eqb (length y) (nRow t) h))
 
 -- ---- lengths kept
 

@@ -1,60 +1,31 @@
 -- Laws of what stands before the first step.
-use Prim.Native.Nat.{ℕ, _+_, _-_, _≤_}
+use Prim.Native.Nat.{ℕ, _+_, _-_}
 use native.Mathlib.Omega.{arith}
 use mathlib.Core.Path.{_≡_, refl, sym, ap, _∙_}
-use mathlib.Core.Bool.{Bool, true, false, not, _&&_, _||_}
+use mathlib.Core.Bool.{Bool}
 use mathlib.Core.List.{List, [], _∷_, _++_, append-assoc}
-use borrow.Author.Tests.{eq-eqb, le-leb}
-use lib.Dec.{eqb}
 use lib.Ieee.{Float}
 use lib.ListN.{length, take, drop, length-append, length-drop, take-append-drop}
 use lib.Seq.{take-at, drop-at, length-take-le}
-use Rattle.rules.specs.declared.MatType.{MatType}
-use Rattle.rules.specs.declared.Cone.{Cone}
-use Rattle.rules.specs.Limits.{limit}
 use Rattle.rules.specs.Outcome.{Outcome}
-use Rattle.rules.specs.Matrices.{nRow, nCol, Stored, colsFit, rowsFit}
-use Rattle.rules.specs.Blocks.{places, blocksOf, hasBadWord, totalPlaces, isBadCone}
-use Rattle.rules.specs.Product.{blocksWithin, listFits}
+use Rattle.rules.specs.Blocks.{blocksOf, totalPlaces}
+use Rattle.rules.specs.Product.{listFits}
 use Rattle.rules.specs.Problem.{Problem, Embed, embed, lengthX}
 use Rattle.rules.specs.Step.{part}
 use Rattle.rules.specs.Arithmetic.{+0}
 use Rattle.rules.specs.Vectors.{scaled}
 use Rattle.rules.specs.Prepare.{columnIn, withB, withC, frNorm, norms, diagonal, sumsX, sumsY, sumsS, sumsTau, groupedX, dpTauOf, dpSigmaOf}
 use Rattle.rules.proofs.Outcome.{ruled-if-fits}
-use Rattle.rules.proofs.Matrices.{fits-if-stored}
-use Rattle.rules.proofs.Parts.{put, next-put, part-after, places as as-many}
+use Rattle.rules.proofs.ConeProduct.{sums-fit}
+use Rattle.rules.proofs.Parts.{put, next-put, part-after, places}
 use Rattle.rules.proofs.Lengths.{sumsX-length, sumsY-length, sumsS-length, sumsTau-length}
 use Rattle.solver.specs.Preparing.{columnSums, rowSums, rowsOf, groupedParts, Grouping}
 
--- ---- absolute sums: what a caller whose sizes fit learns
-
-module _ {y ruled : List Float} {answer : Bool} {after : List Float} where
-  pub cols-ruled : {t : MatType} {mat : List Float} → Outcome (colsFit t mat y) ruled y answer after → Stored t mat → length y ≡ nCol t → after ≡ ruled
-  cols-ruled {t} o s h = ruled-if-fits o (rw (fits-if-stored s) (eq-eqb (length y) (nCol t) h))
-
-  pub rows-ruled : {t : MatType} {mat : List Float} → Outcome (rowsFit t mat y) ruled y answer after → Stored t mat → length y ≡ nRow t → after ≡ ruled
-  rows-ruled {t} o s h = ruled-if-fits o (rw (fits-if-stored s) (eq-eqb (length y) (nRow t) h))
-
--- ---- a readable list whose blocks sum to a length within the limit fits
-
-blocks-within : (bs : List Cone) → totalPlaces bs ≤ limit → blocksWithin bs ≡ true
-unfolding blocksWithin totalPlaces
-blocks-within [] h = refl
-blocks-within (b ∷ bs) h = rw (le-leb (places b) limit (omega arith)) (blocks-within bs (omega arith))
-
-all-hold : (s t u : Bool) → s ≡ false → t ≡ true → u ≡ true → (not (s || not t) && u) ≡ true
-all-hold s t u e f g = rw (e, f, g)
-
-pub list-fits : (words : List ℕ) (xs : List Float) → hasBadWord words ≡ false → totalPlaces (blocksOf words) ≡ length xs → length xs ≤ limit → listFits words xs ≡ true
-unfolding isBadCone
-list-fits words xs e f h =
-    all-hold (hasBadWord words) (eqb (totalPlaces (blocksOf words)) (length xs)) (blocksWithin (blocksOf words)) e (eq-eqb (totalPlaces (blocksOf words)) (length xs) f) (blocks-within (blocksOf words) (omega arith))
-
+-- what a caller whose list of blocks has all places learns
 pub group-ruled : {m : ℕ} {words : List ℕ} {xs ruled : List Float} {answer : Bool} {after : List Float} → Grouping m words → length xs ≡ m → Outcome (listFits words xs) ruled xs answer after → after ≡ ruled
 group-ruled {m} {words} {xs} g h o =
     let e : totalPlaces (blocksOf words) ≡ length xs = g .places ∙ sym h in
-    ruled-if-fits o (list-fits words xs (g .readable) e (omega (arith, g .m-within)))
+    ruled-if-fits o (sums-fit words (length xs) (g .readable) e (omega (arith, g .m-within)))
 
 -- ---- the parts of a vector like x
 
@@ -103,7 +74,7 @@ module _ (n m : ℕ) (d p : List Float) (d-length : length d ≡ n + m + m + 1) 
 
   pub lent-after : take (n + m + m - (n + m)) (drop (n + m) (put n (n + m) d p)) ≡ part (n + m) m d
   lent-after =
-      rw (as-many (n + m) m) (part-after n (n + m) d p (omega arith) (omega arith) (p-length ∙ sym (as-many n m)) (n + m) m (omega arith))
+      rw (places (n + m) m) (part-after n (n + m) d p (omega arith) (omega arith) (p-length ∙ sym (places n m)) (n + m) m (omega arith))
 
 -- the rows' sums are made of the columns'
 pub rows-of-columns : (k : Embed) (t : List Float) → length t ≡ lengthX (k .m) (k .n) → rowsOf (k .m) (k .n) (columnSums k t) ≡ rowSums k t

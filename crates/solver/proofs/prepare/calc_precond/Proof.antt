@@ -10,7 +10,9 @@ matrix-of-requires : tie.Need-matrix-of-requires
 matrix-of-requires c κs = search needs
 
 abssum-requires : tie.Need-abssum-requires
-abssum-requires c κs = (rw (c .before .before .matrix-of .ensures) (c .before .before .before .before .before .before .before .before .before .pre .0 .operators), (search needs, search needs))
+abssum-requires c κs =
+    let start = c .before .before .before .before .before .before .before .before .before in
+    (rw (c .before .before .matrix-of .ensures) (start .pre .0 .operators), (search needs, search needs))
 
 diagonal-requires : tie.Need-diagonal-requires
 diagonal-requires c κs = search needs
@@ -19,7 +21,9 @@ diagonal-requires-2 : tie.Need-diagonal-requires-2
 diagonal-requires-2 c κs = search needs
 
 group-parts-requires : tie.Need-group-parts-requires
-group-parts-requires c κs = (record { m-within = c .before .before .before .before .before .before .before .before .before .before .before .before .before .before .before .before .before .before .before .before .before .before .before .pre .0 .operators .m-within; readable = c .before .before .before .before .before .before .before .before .before .before .before .before .before .before .before .before .before .before .before .before .before .before .before .pre .0 .readable; places = c .before .before .before .before .before .before .before .before .before .before .before .before .before .before .before .before .before .before .before .before .before .before .before .pre .0 .places }, search needs)
+group-parts-requires c κs =
+    let ready = c .before .before .before .before .before .before .before .before .before .before .before .before .before .before .before .before .before .before .before .before .before .before .before .pre .0 in
+    (record { m-within = ready .operators .m-within; readable = ready .readable; places = ready .places }, search needs)
 
 same-length : tie.Need-same-length
 same-length c = search needs
@@ -32,8 +36,10 @@ returns c =
     let g = c .before .before .before .before .before .before .before .before .before .before .before .before .before .before .before .before .before .before .before .before .before .before .before .before .before .before .args in
     let p = problemOf (g .m) (g .n) (g .storage) (g .c .now) (g .a .now) (g .b .now) (g .words .now) (g .par) in
     let tau = g .dp-tau .now in
+    let is = c .before .before .before .before .before .before .before .before .before .before .before .before .before .before .before .before .before .before .before .matrix-of .ensures in
     let sums = c .before .before .before .before .before .before .before .before .before .before .before .before .before .before .before .before .abssum .ensures in
-    (c .before .before .group-parts .ensures ∙ rw (c .before .before .before .before .before .before .before .before .before .before .diagonal .ensures, sums .0, c .before .before .before .before .before .before .before .before .before .before .before .before .before .before .before .before .before .before .before .matrix-of .ensures) (sym (dpTau-is p tau)), c .before .before .before .before .before .before .diagonal2 .ensures ∙ rw (sums .1, c .before .before .before .before .before .before .before .before .before .before .before .before .before .before .before .before .before .before .before .matrix-of .ensures) (sym (dpSigma-is p tau)))
+    let first = c .before .before .before .before .before .before .before .before .before .before .diagonal .ensures in
+    (c .before .before .group-parts .ensures ∙ rw (first, sums .0, is) (sym (dpTau-is p tau)), c .before .before .before .before .before .before .diagonal2 .ensures ∙ rw (sums .1, is) (sym (dpSigma-is p tau)))
 
 pub calc-precond-spec : {M : Type 1} → statement M
 calc-precond-spec =

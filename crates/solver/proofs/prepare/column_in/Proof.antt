@@ -27,8 +27,9 @@ same-length c = search needs
 returns : tie.Need-returns
 unfolding columnIn one
 returns c =
-    let k = c .before .before .before .before .before .before .before .before .args in
-    let s : Stored (column (length (k .t .now))) (k .v .now) = record { rows = c .before .before .before .before .before .before .before .before .pre .1; cols = omega arith; all = omega (arith, c .before .before .before .before .before .before .before .before .pre .0) } in
+    let start = c .before .before .before .before .before .before .before .before in
+    let k = start .args in
+    let s : Stored (column (length (k .t .now))) (k .v .now) = record { rows = start .pre .1; cols = omega arith; all = omega (arith, start .pre .0) } in
     op-ruled (one ∷ []) (rw (c .before .before .before .before .before .column .ensures) at (c .before .before .op .ensures)) s refl refl
 
 pub column-in-spec : {M : Type 1} → statement M

@@ -1,6 +1,6 @@
 -- `solver::prepare::sums_y` meets its contract.
 use mathlib.Core.Path.{_∙_}
-use Rattle.solver.proofs.Preparing.{rows-ruled}
+use Rattle.rules.proofs.Kernels.{rows-ruled}
 use borrow.Author.Needs.{needs}
 use native.Mathlib.Omega.{arith}
 use Rattle.solver.proofs.prepare.sums_y.Statement.{statement}

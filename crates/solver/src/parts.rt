@@ -15,9 +15,9 @@ ghost use Rattle.solver.specs.Solution.{solutionX, solutionY, finishedX,
 pub fn solution_x(work: &[f64], cols: Cols) -> &[f64]
     ensures { λ r. ⌜ now r ≡ solutionX (cols .0) (now (work .entry)) ⌝ }
 {
-    let n = cols.0;
-    if n <= work.len() {
-        &work[0..n]
+    let end = cols.0;
+    if end <= work.len() {
+        &work[0..end]
     } else {
         &work[..0]
     }

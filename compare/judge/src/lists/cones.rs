@@ -531,7 +531,7 @@ fn grouped(blocks: &[Block], xs: &[f64]) -> Vec<f64> {
 }
 
 fn grouping(records: &mut Records, random: &mut Random, sort: Sort) {
-    let blocks = blocks(random, 17);
+    let blocks = blocks(random, 12);
     let mut xs = numbers(random, sort, places(&blocks));
     let answer = asked(records, &mut xs, |xs| grouped(&blocks, xs));
     records.push(
@@ -580,6 +580,8 @@ fn records(seed: u64) -> Records {
     for sort in SORTS {
         for _ in 0..60 {
             product(&mut all, &mut random, sort);
+        }
+        for _ in 0..40 {
             grouping(&mut all, &mut random, sort);
         }
     }

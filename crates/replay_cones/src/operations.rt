@@ -107,29 +107,51 @@ fn projects_list(dual: bool, list: &[u16], record: &[u8], places: usize) -> bool
         return false;
     }
     let x_at = list.len() + 6;
+    let answer_at = x_at + places;
+    let projected_at = answer_at + 2;
+    let work_at = projected_at + places;
     let words = record::words(record);
-    if words < x_at + 2 * places + 2 {
+    if words < work_at {
         return false;
     }
-    let used = words - (x_at + 2 * places + 2);
+    let used = words - work_at;
     if used > record::ROOM {
         return false;
     }
+    let par = semidefinite::parameters(record::number(record, 2), record::word(record, 1));
     let before = record::number(record, 3);
     let mut x = record::numbers(record, x_at, places);
     let mut work = [before; record::ROOM];
-    let par = semidefinite::parameters(record::number(record, 2), record::word(record, 1));
-    let answer = cone::product_proj(par, dual, list, &mut x[0..places], &mut work);
-    if !is_answer(answer, record, x_at + places) {
+    let answer = project_and_not(par, dual, list, &mut x, places, &mut work, used);
+    if !is_answer(answer, record, answer_at) {
         return false;
     }
-    if !is_list_turned_down(par, dual, list, &mut x, places, &mut work, used) {
+    if !record::holds(record, projected_at, &x[0..places]) {
         return false;
     }
-    if !record::holds(record, x_at + places + 2, &x[0..places]) {
-        return false;
+    record::holds_work(record, work_at, used, before, &work)
+}
+
+// Projects the list on the first places of x; the answer is no as well if what doesn't fit is not
+// turned down afterwards.
+fn project_and_not(
+    par: SolverParam,
+    dual: bool,
+    list: &[u16],
+    x: &mut [f64],
+    places: usize,
+    work: &mut [f64],
+    used: usize,
+) -> Product {
+    if x.len() <= places {
+        return Product::No;
     }
-    record::holds_work(record, x_at + 2 * places + 2, used, before, &work)
+    let answer = cone::product_proj(par, dual, list, &mut x[0..places], work);
+    if is_turned_down(par, dual, list, x, places, work, used) {
+        answer
+    } else {
+        Product::No
+    }
 }
 
 // Whether this is what the record holds from a place on: the number of the failed block plus 1, or 0;
@@ -157,7 +179,7 @@ fn is_answer(answer: Product, record: &[u8], at: usize) -> bool
 }
 
 // Whether a list is turned down with one place too many, and with one place of cone work too few.
-fn is_list_turned_down(
+fn is_turned_down(
     par: SolverParam,
     dual: bool,
     list: &[u16],

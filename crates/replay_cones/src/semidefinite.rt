@@ -82,30 +82,59 @@ pub fn agrees(record: &[u8]) -> bool {
 fn agrees_by(way: Way, record: &[u8], places: usize) -> bool
     requires { ⌜ places ≤ 639 ⌝ }
 {
+    let answer_at = places + 5;
+    let x_at = places + 7;
+    let work_at = x_at + places;
     let words = record::words(record);
-    if words < 2 * places + 7 {
+    if words < work_at {
         return false;
     }
-    let used = words - (2 * places + 7);
+    let used = words - work_at;
     if used > record::ROOM {
         return false;
     }
-    let order = record::size(record, 0);
     let par = parameters(record::number(record, 3), record::word(record, 2));
     let before = record::number(record, 4);
     let mut x = record::numbers(record, 5, places);
     let mut work = [before; record::ROOM];
-    let answer = project(way, par, order, &mut x[0..places], &mut work);
-    if !is_answer(answer, record, places + 5) {
+    let answer = project_and_not(
+        way,
+        par,
+        record::size(record, 0),
+        &mut x,
+        places,
+        &mut work,
+        used,
+    );
+    if !is_answer(answer, record, answer_at) {
         return false;
     }
-    if !is_turned_down(way, par, order, &mut x, places, &mut work, used) {
+    if !record::holds(record, x_at, &x[0..places]) {
         return false;
     }
-    if !record::holds(record, places + 7, &x[0..places]) {
-        return false;
+    record::holds_work(record, work_at, used, before, &work)
+}
+
+// Projects the first places of x; the answer is no as well if what doesn't fit is not turned down
+// afterwards.
+fn project_and_not(
+    way: Way,
+    par: SolverParam,
+    order: usize,
+    x: &mut [f64],
+    places: usize,
+    work: &mut [f64],
+    used: usize,
+) -> Projection {
+    if x.len() <= places {
+        return Projection::No;
     }
-    record::holds_work(record, 2 * places + 7, used, before, &work)
+    let answer = project(way, par, order, &mut x[0..places], work);
+    if is_turned_down(way, par, order, x, places, work, used) {
+        answer
+    } else {
+        Projection::No
+    }
 }
 
 // Whether this is what the record holds from a place on: 1 for success or 0; the rotations.

@@ -117,23 +117,19 @@ fn plus_zero(xs: &mut [f64]) {
 /// Asks with these numbers. Where a larger or smaller of the original's is not the rule's, that is
 /// counted, and the numbers are changed until there is none.
 fn asked<T>(records: &mut Records, x: &mut [f64], mut ask: impl FnMut(&[f64]) -> T) -> T {
-    let answer = ask(x);
-    let seen = sight();
-    if seen.signalling > 0 {
-        records.signalling += 1;
-        quiet(x);
+    loop {
+        let answer = ask(x);
+        let seen = sight();
+        if seen.signalling > 0 {
+            records.signalling += 1;
+            quiet(x);
+        } else if seen.other_zeros > 0 {
+            records.zeros += 1;
+            plus_zero(x);
+        } else {
+            return answer;
+        }
     }
-    if seen.other_zeros > 0 {
-        records.zeros += 1;
-        plus_zero(x);
-    }
-    if seen.signalling == 0 && seen.other_zeros == 0 {
-        return answer;
-    }
-    let answer = ask(x);
-    let seen = sight();
-    assert_eq!((seen.signalling, seen.other_zeros), (0, 0));
-    answer
 }
 
 /// The watched run, and the rotations it made. If no limit cut it off, a run over plain f64 ends
@@ -228,6 +224,23 @@ fn around_the_boundary(records: &mut Records, random: &mut Random, size: usize, 
         x[0] = (r + s) / 2f64.sqrt();
         x[1] = (r - s) / 2f64.sqrt();
         block(records, Kind::Rotated, dual, x);
+    }
+}
+
+/// Special numbers beside ordinary ones, and beside each other, as head and as tail.
+fn special_points(records: &mut Records) {
+    let special = SPECIAL.map(f64::from_bits);
+    let fewer = [0, 1, 2, 5, 8, 13, 14, 15, 16, 17, 18, 19, 20].map(|i| special[i]);
+    for kind in [Kind::SecondOrder, Kind::Rotated] {
+        for a in special {
+            block(records, kind, false, vec![a, 3.0, 4.0]);
+            block(records, kind, true, vec![5.0, a, 4.0]);
+        }
+        for a in fewer {
+            for b in fewer {
+                block(records, kind, false, vec![a, b]);
+            }
+        }
     }
 }
 
@@ -569,6 +582,7 @@ fn records(seed: u64) -> Records {
         block(&mut all, Kind::SecondOrder, false, vec![head, 3.0, 4.0]);
         block(&mut all, Kind::SecondOrder, true, vec![head, -3.0, 4.0]);
     }
+    special_points(&mut all);
     for order in 0..=8 {
         for _ in 0..if order < 2 { 1 } else { 3 } {
             semidefinite_forms(&mut all, &mut random, order, &FORMS);

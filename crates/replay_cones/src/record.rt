@@ -87,14 +87,14 @@ fn all_have(pattern: u64, numbers: &[f64]) -> bool {
     true
 }
 
-// Whether cone work holds, in the places used, what the record holds from a place on, and past them the
-// number that stood in all of it.
-pub fn holds_work(record: &[u8], at: usize, used: usize, before: f64, work: &[f64]) -> bool {
-    if used > work.len() {
+// Whether the first n of these numbers stand in the record from a place on, and all after them are one
+// number.
+pub fn holds_before(record: &[u8], at: usize, numbers: &[f64], n: usize, rest: f64) -> bool {
+    if n > numbers.len() {
         return false;
     }
-    if !holds(record, at, &work[0..used]) {
+    if !holds(record, at, &numbers[0..n]) {
         return false;
     }
-    all_have(patterns::pattern_of(before), &work[used..])
+    all_have(patterns::pattern_of(rest), &numbers[n..])
 }

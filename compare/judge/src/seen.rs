@@ -1,7 +1,8 @@
 //! An f64 that is watched while the original computes with it. The original is generic over its
 //! number, so what it keeps to itself can be seen from below, its text unchanged: the rotations
 //! made, the sweeps taken (and a stop when they pass the limit), the criteria in full, and
-//! every larger or smaller of two zeros that comes out other than the second.
+//! every larger or smaller of two zeros that comes out other than the second, or of a signalling
+//! NaN.
 
 use num_traits::{Float, NumCast, One, ToPrimitive, Zero};
 use std::cell::Cell;
@@ -10,7 +11,7 @@ use std::fmt;
 use std::ops::{Add, Div, Mul, Neg, Sub};
 use std::panic::resume_unwind;
 
-use crate::words::word;
+use crate::words::{signalling, word};
 
 /// What the judge runs the original over: plain f64, or watched.
 pub trait Number: Float + fmt::Debug + fmt::LowerExp + 'static {
@@ -51,6 +52,7 @@ struct Watch {
     limit: usize,
     rotations: u64,
     other_zeros: u64,
+    signalling: u64,
     // The semidefinite projection under way.
     next: Next,
     pairs: usize,
@@ -63,6 +65,7 @@ const IDLE: Watch = Watch {
     limit: usize::MAX,
     rotations: 0,
     other_zeros: 0,
+    signalling: 0,
     next: Next::None,
     pairs: 0,
     left: 0,
@@ -79,6 +82,8 @@ pub struct Sight {
     pub rotations: u64,
     /// How often a larger or smaller of -0 and +0 was not the second of the two.
     pub other_zeros: u64,
+    /// How often a larger or smaller had a signalling NaN.
+    pub signalling: u64,
 }
 
 /// Starts the counts anew, with this sweep limit.
@@ -94,6 +99,7 @@ pub fn sight() -> Sight {
     Sight {
         rotations: w.rotations,
         other_zeros: w.other_zeros,
+        signalling: w.signalling,
     }
 }
 
@@ -172,13 +178,17 @@ impl PartialOrd for Seen {
     }
 }
 
-/// Counts an answer drawn from two zeros of unlike sign that is not the second.
-fn zeros_seen(a: f64, b: f64, answer: f64) -> Seen {
+/// Counts an answer drawn from two zeros of unlike sign that is not the second, and one that a
+/// signalling NaN had part in.
+fn chosen(a: f64, b: f64, answer: f64) -> Seen {
+    let mut w = WATCH.get();
     if a == 0.0 && b == 0.0 && answer.to_bits() != b.to_bits() {
-        let mut w = WATCH.get();
         w.other_zeros += 1;
-        WATCH.set(w);
     }
+    if signalling(a) || signalling(b) {
+        w.signalling += 1;
+    }
+    WATCH.set(w);
     Seen(answer)
 }
 
@@ -193,10 +203,10 @@ impl Float for Seen {
         Seen(Float::abs(self.0))
     }
     fn max(self, other: Seen) -> Seen {
-        zeros_seen(self.0, other.0, Float::max(self.0, other.0))
+        chosen(self.0, other.0, Float::max(self.0, other.0))
     }
     fn min(self, other: Seen) -> Seen {
-        zeros_seen(self.0, other.0, Float::min(self.0, other.0))
+        chosen(self.0, other.0, Float::min(self.0, other.0))
     }
     fn recip(self) -> Seen {
         Seen(Float::recip(self.0))

@@ -1,5 +1,6 @@
 //! The fixed lists.
 
+pub mod cones;
 pub mod kernels;
 pub mod roots;
 
@@ -9,5 +10,6 @@ use std::path::Path;
 /// prints what each holds.
 pub fn make(seed: u64, crates: &Path) -> std::io::Result<()> {
     roots::make(seed, &crates.join("replay_roots/stdin"))?;
-    kernels::make(seed, &crates.join("replay_kernels/stdin"))
+    kernels::make(seed, &crates.join("replay_kernels/stdin"))?;
+    cones::make(seed, &crates.join("replay_cones/stdin"))
 }

@@ -1,0 +1,54 @@
+-- `replay_cones::replay` is safe and ends: the measure is the records that are left.
+use borrow.Author.Needs.{needs}
+use Prim.Native.Nat.{_-_, _≤_}
+use Rattle.replay_cones.proofs.replay.Statement.{statement}
+use Rattle.replay_cones.proofs.replay.Tie as tie
+
+abbrev Inv-loop : tie.InvT-loop
+Inv-loop records agree₀ differ₀ counter₀ agree differ counter = counter ≤ records
+
+abbrev μ-loop : tie.MeasureT-loop
+μ-loop records agree₀ differ₀ counter₀ agree differ counter = records - counter
+
+loop-holds : tie.Need-loop-holds Inv-loop μ-loop
+loop-holds c = search needs
+
+replay-one-requires : tie.Need-replay-one-requires Inv-loop μ-loop
+replay-one-requires c κs = search needs
+
+returns : tie.Need-returns Inv-loop μ-loop
+returns c = search needs
+
+add-counter : tie.Need-add-counter Inv-loop μ-loop
+add-counter c = search needs
+
+loop-less : tie.Need-loop-less Inv-loop μ-loop
+loop-less c = search needs
+
+loop-again : tie.Need-loop-again Inv-loop μ-loop
+loop-again c = search needs
+
+slice-aggregate-read : tie.Need-slice-aggregate-read Inv-loop μ-loop
+slice-aggregate-read c = search needs
+
+read-requires : tie.Need-read-requires Inv-loop μ-loop
+read-requires c κs = search needs
+
+returns-2 : tie.Need-returns-2 Inv-loop μ-loop
+returns-2 c = search needs
+
+pub replay-spec : {M : Type 1} → statement M
+replay-spec =
+    tie.close
+    (tie.spec
+    Inv-loop
+    μ-loop
+    loop-holds
+    replay-one-requires
+    returns
+    add-counter
+    loop-less
+    loop-again
+    slice-aggregate-read
+    read-requires
+    returns-2)

@@ -24,11 +24,7 @@ use Rattle.rules.specs.Step.{part}
 use Rattle.rules.specs.Prepare.{diagonal}
 use Rattle.rules.proofs.Arithmetic.{each-length}
 use Rattle.rules.proofs.Columns.{tabulate-length, packed-length, square-length}
-
--- ---- parts
-
-pub part-length : (i k : ℕ) (v : List Float) → i + k ≤ length v → length (part i k v) ≡ k
-part-length i k v h = length-take-le k (drop i v) (omega (arith, length-drop i v))
+use Rattle.rules.proofs.Parts.{part-length}
 
 -- ---- vectors
 

@@ -19,7 +19,8 @@ use Rattle.rules.specs.Criteria.{tauOf, withResiduals, primalResidual, d
 use Rattle.rules.specs.Prepare.{Norms, zeros, diagonal, columnIn, withB, withC, startX, sumsX, sumsY, sumsS, sumsTau, groupedX, dpTauOf, dpSigmaOf, prepared, preparedNorms}
 use Rattle.rules.specs.Run.{turn, run}
 use Rattle.rules.specs.Demands.{stateAfter}
-use Rattle.rules.proofs.KernelLengths.{part-length, scaled-length, added-length, shifted-length, transformedDi-length, diagonal-length, opped-length, transOpped-length, absaddedCols-length, absaddedRows-length, groupAll-length, PassKeeps, pass-keeps}
+use Rattle.rules.proofs.KernelLengths.{scaled-length, added-length, shifted-length, transformedDi-length, diagonal-length, opped-length, transOpped-length, absaddedCols-length, absaddedRows-length, groupAll-length, PassKeeps, pass-keeps}
+use Rattle.rules.proofs.Parts.{part-length}
 use Rattle.rules.proofs.Run.{ends-first}
 
 -- ---- the sizes

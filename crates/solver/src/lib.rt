@@ -1,4 +1,5 @@
 // The solver.
+mod criteria;
 mod embed;
 mod shape;
 mod update;

@@ -1,2 +1,4 @@
 pub mod Fitting
 pub mod Update
+pub mod Verdict
+pub mod Run

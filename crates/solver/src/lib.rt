@@ -1,5 +1,7 @@
 // The solver.
 mod criteria;
 mod embed;
+mod run;
 mod shape;
 mod update;
+mod verdict;

@@ -17,6 +17,7 @@ ghost use Rattle.rules.specs.Run.{allowance};
 ghost use Rattle.solver.specs.Fitting.{embedOf, Fits, LikeX};
 ghost use Rattle.solver.specs.Verdict.{asVerdict, normsOf};
 
+// Whether the run goes on after a step.
 pub enum Verdict {
     GoesOn,
     Ends(Ending),
@@ -64,7 +65,11 @@ fn is_converged(par: SolverParam, pri: f64, dual: f64, gap: f64) -> bool
     ensures { λ r. ⌜ r ≡ (le pri (par .«eps_acc») && le dual (par .«eps_acc») && le gap (par .«eps_acc»)) ⌝ }
 {
     if pri <= par.eps_acc {
-        if dual <= par.eps_acc { gap <= par.eps_acc } else { false }
+        if dual <= par.eps_acc {
+            gap <= par.eps_acc
+        } else {
+            false
+        }
     } else {
         false
     }

@@ -1,3 +1,4 @@
 pub mod Moves
 pub mod Cones
 pub mod Updated
+pub mod Runs

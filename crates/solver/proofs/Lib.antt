@@ -5,3 +5,4 @@ pub mod Preparing
 pub mod Finite
 pub mod Refused
 pub mod Parted
+pub mod Runs

@@ -4,6 +4,7 @@ mod criteria;
 mod embed;
 mod parts;
 mod prepare;
+mod run;
 mod shape;
 mod update;
 mod verdict;

@@ -3,6 +3,7 @@ mod checks;
 mod criteria;
 mod embed;
 mod parts;
+mod pieces;
 mod prepare;
 mod run;
 mod shape;

@@ -5,3 +5,5 @@ pub mod Preparing
 pub mod Finite
 pub mod Refused
 pub mod Parted
+pub mod Runs
+pub mod Settling

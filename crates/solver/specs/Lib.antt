@@ -4,3 +4,5 @@ pub mod Verdict
 pub mod Preparing
 pub mod Check
 pub mod Solution
+pub mod Run
+pub mod Solve

@@ -7,3 +7,4 @@ pub mod Refused
 pub mod Parted
 pub mod Runs
 pub mod Settling
+pub mod Whole

@@ -7,6 +7,7 @@ mod pieces;
 mod prepare;
 mod run;
 mod shape;
+mod solving;
 mod update;
 mod verdict;
 

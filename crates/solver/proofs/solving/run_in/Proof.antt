@@ -1,0 +1,108 @@
+-- `solver::solving::run_in` meets its contract.
+use native.Mathlib.Omega.{arith}
+use borrow.Author.Needs.{needs}
+use Rattle.solver.proofs.Whole.{zero-x, zero-y, zero-tau, zero-sigma, zero-rx, zero-tx, cleared-needed, prepared-x, prepared-y, prepared-tau, prepared-sigma, whole-run, ran-in}
+use Rattle.solver.proofs.solving.run_in.Statement.{statement}
+use Rattle.solver.proofs.solving.run_in.Tie as tie
+
+clear-requires : tie.Need-clear-requires
+clear-requires c κs = search needs
+
+prepare-all-requires : tie.Need-prepare-all-requires
+prepare-all-requires c κs =
+    let start = c .before .before .before .before .before .before .before .before .before .before .before .before .before .before .before .before .before .before .before .before in
+    let z = start .pre .1 in
+    (start .pre .0 .ready, (zero-x z, (zero-y z, (zero-tau z, zero-sigma z))))
+
+iterate-requires : tie.Need-iterate-requires
+iterate-requires c κs =
+    let start = c .before .before .before .before .before .before .before .before .before .before .before .before .before .before .before .before .before .before .before .before .before .before .before .before .before .before .before .before .before .before .before .before .before .before .before .before in
+    let cleared = c .before .before .before .before .before .before .before .before .before .before .before .before .before .before .before .before .before .before .before .before .before .before .clear in
+    let before = c .before .before .before .before .before .before .before .before .before .before .before .before .before .before .before .prepare-all in
+    let z = start .pre .1 in
+    let q = before .ensures in
+    (start .pre .0 .ready, (prepared-x z q, (prepared-y z q, (prepared-tau z q, (prepared-sigma z q, (zero-rx z, (zero-tx z, (cleared-needed (start .pre .0) (cleared .ensures), start .pre .0 .steps))))))))
+
+settle-requires : tie.Need-settle-requires
+settle-requires c κs =
+    let start = c .before .before .before .before .before .before .before .before .before .before .before .before .before .before .before .before .before .before .before .before .before .before .before .before .before .before .before .before .before .before .before .before .before .before .before .before .before .before .before .before .before .before .before .before .before .before .before .before .before .before .before .before .before .before .before in
+    let before = c .before .before .before .before .before .before .before .before .before .before .before .before .before .before .before .before .before .before .before .before .before .before .before .before .before .before .before .before .before .before .before .before .before .before .prepare-all in
+    let steps = c .before .before .before .before .before .before .before .before .before .before .before .before .before .before .before .before .before .before .iterate in
+    let z = start .pre .1 in
+    let q = before .ensures in
+    let ready = start .pre .0 .ready in
+    ((ready .operators .m-within, ready .operators .n-within), (record { is = omega (arith, prepared-x z q .is, steps .kept) }, (record { is = omega (arith, prepared-y z q .is, steps .kept) }, (prepared-tau z q, (prepared-sigma z q, (record { is = omega (arith, zero-rx z .is, steps .kept) }, (record { is = omega (arith, zero-tx z .is, steps .kept) }, start .pre .0 .work-long)))))))
+
+same-length : tie.Need-same-length
+same-length c =
+    let before = c .before .before .before .before .before .before .before .before .before .before .before .before .before .before .before .before .before .before .before .before .before .before .before .before .before .before .before .before .before .before .before .before .before .before .before .before .before .before .before .before .before .prepare-all in
+    let steps = c .before .before .before .before .before .before .before .before .before .before .before .before .before .before .before .before .before .before .before .before .before .before .before .before .before .iterate in
+    let after = c .before .before .before .before .before .before .settle in
+    omega (arith, before .kept, steps .kept, after .kept)
+
+same-length-2 : tie.Need-same-length-2
+same-length-2 c =
+    let before = c .before .before .before .before .before .before .before .before .before .before .before .before .before .before .before .before .before .before .before .before .before .before .before .before .before .before .before .before .before .before .before .before .before .before .before .before .before .before .before .before .before .prepare-all in
+    let steps = c .before .before .before .before .before .before .before .before .before .before .before .before .before .before .before .before .before .before .before .before .before .before .before .before .before .iterate in
+    omega (arith, before .kept, steps .kept)
+
+same-length-3 : tie.Need-same-length-3
+same-length-3 c =
+    let before = c .before .before .before .before .before .before .before .before .before .before .before .before .before .before .before .before .before .before .before .before .before .before .before .before .before .before .before .before .before .before .before .before .before .before .before .before .before .before .before .before .before .prepare-all in
+    omega (arith, before .kept)
+
+same-length-4 : tie.Need-same-length-4
+same-length-4 c =
+    let before = c .before .before .before .before .before .before .before .before .before .before .before .before .before .before .before .before .before .before .before .before .before .before .before .before .before .before .before .before .before .before .before .before .before .before .before .before .before .before .before .before .before .prepare-all in
+    omega (arith, before .kept)
+
+same-length-5 : tie.Need-same-length-5
+same-length-5 c =
+    let steps = c .before .before .before .before .before .before .before .before .before .before .before .before .before .before .before .before .before .before .before .before .before .before .before .before .before .iterate in
+    omega (arith, steps .kept)
+
+same-length-6 : tie.Need-same-length-6
+same-length-6 c =
+    let steps = c .before .before .before .before .before .before .before .before .before .before .before .before .before .before .before .before .before .before .before .before .before .before .before .before .before .iterate in
+    omega (arith, steps .kept)
+
+same-length-7 : tie.Need-same-length-7
+same-length-7 c =
+    let after = c .before .before .before .before .before .before .settle in
+    omega (arith, after .kept)
+
+same-length-8 : tie.Need-same-length-8
+same-length-8 c =
+    let cleared = c .before .before .before .before .before .before .before .before .before .before .before .before .before .before .before .before .before .before .before .before .before .before .before .before .before .before .before .before .before .before .before .before .before .before .before .before .before .before .before .before .before .before .before .before .before .before .before .before .clear in
+    let steps = c .before .before .before .before .before .before .before .before .before .before .before .before .before .before .before .before .before .before .before .before .before .before .before .before .before .iterate in
+    let after = c .before .before .before .before .before .before .settle in
+    omega (arith, cleared .kept, steps .kept, after .kept)
+
+returns : tie.Need-returns
+returns c =
+    let start = c .before .before .before .before .before .before .before .before .before .before .before .before .before .before .before .before .before .before .before .before .before .before .before .before .before .before .before .before .before .before .before .before .before .before .before .before .before .before .before .before .before .before .before .before .before .before .before .before .before .before .before .before .before .before .before .before .before .before .before .before .before .before in
+    let cleared = c .before .before .before .before .before .before .before .before .before .before .before .before .before .before .before .before .before .before .before .before .before .before .before .before .before .before .before .before .before .before .before .before .before .before .before .before .before .before .before .before .before .before .before .before .before .before .before .before .clear in
+    let before = c .before .before .before .before .before .before .before .before .before .before .before .before .before .before .before .before .before .before .before .before .before .before .before .before .before .before .before .before .before .before .before .before .before .before .before .before .before .before .before .before .before .prepare-all in
+    let steps = c .before .before .before .before .before .before .before .before .before .before .before .before .before .before .before .before .before .before .before .before .before .before .before .before .before .iterate in
+    let after = c .before .before .before .before .before .before .settle in
+    let z = start .pre .1 in
+    let whole = whole-run z (before .ensures) (start .pre .0) (cleared .ensures) (steps .ensures) in
+    ran-in whole (omega (arith, start .pre .0 .cone-long, cleared .kept, steps .kept)) (after .ensures)
+
+pub run-in-spec : {M : Type 1} → statement M
+run-in-spec =
+    tie.close
+    (tie.spec
+    clear-requires
+    prepare-all-requires
+    iterate-requires
+    settle-requires
+    same-length
+    same-length-2
+    same-length-3
+    same-length-4
+    same-length-5
+    same-length-6
+    same-length-7
+    same-length-8
+    returns)

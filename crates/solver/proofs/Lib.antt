@@ -6,3 +6,4 @@ pub mod Finite
 pub mod Refused
 pub mod Parted
 pub mod Runs
+pub mod Outcomes

@@ -2,12 +2,15 @@
 mod checks;
 mod criteria;
 mod embed;
+mod entry;
 mod parts;
 mod prepare;
 mod run;
 mod shape;
+mod solving;
 mod update;
 mod verdict;
 
+pub use entry::solve;
 pub use parts::solution_x;
 pub use parts::solution_y;

@@ -8,3 +8,4 @@ pub mod Parted
 pub mod Runs
 pub mod Settling
 pub mod Whole
+pub mod Outcomes

@@ -1,7 +1,7 @@
 -- What the pieces of an accepted run leave, up to the whole of it.
 use Prim.Native.Nat.{ℕ, _≤_}
 use mathlib.Core.Path.{_≡_}
-use mathlib.Core.Bool.{Bool, cond}
+use mathlib.Core.Bool.{cond}
 use mathlib.Core.List.{List, _++_}
 use lib.Ieee.{Float}
 use lib.ListN.{length, drop}
@@ -14,7 +14,7 @@ use Rattle.rules.specs.Product.{coneWork}
 use Rattle.rules.specs.Problem.{Problem, embed, blocks, lengthX, lengthY, workLength}
 use Rattle.rules.specs.Step.{State}
 use Rattle.rules.specs.Prepare.{Norms, norms, startX, dpTauOf, dpSigmaOf, zeros}
-use Rattle.rules.specs.Run.{Ended, run, laidOut, isScaled, isConeFailure}
+use Rattle.rules.specs.Run.{run, laidOut, isScaled, isConeFailure, leftBy}
 use Rattle.solver.specs.Fitting.{Ready}
 use Rattle.solver.specs.Solution.{finishedX}
 
@@ -57,3 +57,16 @@ pub record RanIn (p : Problem) (work : List Float) (answer : Answer) (work' cone
   pub answered : answer ≡ record { ending = run p .ending; steps = run p .steps; rotations = run p .rotations }
   pub work-is : work' ≡ cond (isConeFailure (run p .ending)) (zeros (workLength (p .m) (p .n))) (laidOut p (run p .ending) (run p .state)) ++ drop (workLength (p .m) (p .n)) work
   pub cone-is : cone' ≡ cond (isConeFailure (run p .ending)) (zeros (coneWork (blocks p))) (run p .state .cone)
+
+-- a problem that was accepted, with buffers that are long enough
+pub record Taken (p : Problem) (work cone : List Float) : Type 0 where
+  pub ready : Ready p
+  pub steps : p .par .«max_iter» ≤ mostSteps
+  pub work-long : workLength (p .m) (p .n) ≤ length work
+  pub cone-long : coneWork (blocks p) ≤ length cone
+
+-- what an accepted run leaves, by the rule
+pub record LeftAs (p : Problem) (work cone : List Float) (answer : Answer) (work' cone' : List Float) : Type 0 where
+  pub answered : answer ≡ leftBy p work cone (run p) .answer
+  pub work-left : work' ≡ leftBy p work cone (run p) .work
+  pub cone-left : cone' ≡ leftBy p work cone (run p) .cone

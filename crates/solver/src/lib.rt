@@ -2,6 +2,7 @@
 mod checks;
 mod criteria;
 mod embed;
+mod entry;
 mod parts;
 mod pieces;
 mod prepare;
@@ -11,5 +12,6 @@ mod solving;
 mod update;
 mod verdict;
 
+pub use entry::solve;
 pub use parts::solution_x;
 pub use parts::solution_y;

@@ -1,0 +1,116 @@
+// The entry point, which checks for itself, and an accepted run with vectors of its own.
+use crate::checks;
+use crate::checks::Checked;
+use crate::parts;
+use crate::solving;
+use rules::Answer;
+use rules::Cols;
+use rules::LIMIT;
+use rules::Rows;
+use rules::SolverParam;
+use rules::Storage;
+ghost use Rattle.rules.specs.Refusals.{SolveOutcome};
+ghost use Rattle.solver.specs.Fitting.{problemOf};
+ghost use Rattle.solver.specs.Solve.{Taken, LeftAs};
+
+// The longest x and the longest y.
+const LONG_X: usize = 3 * LIMIT + 1;
+
+const LONG_Y: usize = 2 * LIMIT + 1;
+
+// Runs a problem, or turns it away.
+pub fn solve(
+    par: SolverParam,
+    rows: Rows,
+    cols: Cols,
+    storage: Storage,
+    c: &[f64],
+    a: &[f64],
+    b: &[f64],
+    words: &[u16],
+    work: &mut [f64],
+    cone_work: &mut [f64],
+) -> Answer
+    ensures { λ r. ⌜ SolveOutcome (problemOf (rows .0) (cols .0) storage (now (c .entry)) (now (a .entry)) (now (b .entry)) (now (words .entry)) par) (now (work .entry)) (now («cone_work» .entry)) r (now (work .exit)) (now («cone_work» .exit)) ⌝ }
+{
+    let m = rows.0;
+    let n = cols.0;
+    let found = checks::check(
+        par,
+        m,
+        n,
+        storage,
+        c,
+        a,
+        b,
+        words,
+        work.len(),
+        cone_work.len(),
+    );
+    match found {
+        Checked::Refused(e) => Answer {
+            ending: e,
+            steps: 0,
+            rotations: 0,
+        },
+        Checked::Accepted => {
+            accepted(
+                parts::read_eps(par),
+                m,
+                n,
+                storage,
+                c,
+                a,
+                b,
+                words,
+                work,
+                cone_work,
+            )
+        }
+    }
+}
+
+// The six vectors are held apart, since two parts of one lent slice can't be lent at once.
+fn accepted(
+    par: SolverParam,
+    m: usize,
+    n: usize,
+    storage: Storage,
+    c: &[f64],
+    a: &[f64],
+    b: &[f64],
+    words: &[u16],
+    work: &mut [f64],
+    cone_work: &mut [f64],
+) -> Answer
+    requires { ⌜ Taken (problemOf m n storage (now c) (now a) (now b) (now words) par) (now work) (now «cone_work») ⌝ }
+    ensures { λ r. ⌜ LeftAs (problemOf m n storage (now (c .entry)) (now (a .entry)) (now (b .entry)) (now (words .entry)) par) (now (work .entry)) (now («cone_work» .entry)) r (now (work .exit)) (now («cone_work» .exit)) ⌝ }
+{
+    let nx = n + m + m + 1;
+    let ny = n + m + 1;
+    let needed = cone::cone_work_len(words);
+    let mut x = [0.0; LONG_X];
+    let mut y = [0.0; LONG_Y];
+    let mut dp_tau = [0.0; LONG_X];
+    let mut dp_sigma = [0.0; LONG_Y];
+    let mut rx = [0.0; LONG_X];
+    let mut tx = [0.0; LONG_X];
+    solving::run_in(
+        par,
+        m,
+        n,
+        storage,
+        c,
+        a,
+        b,
+        words,
+        &mut x[0..nx],
+        &mut y[0..ny],
+        &mut dp_tau[0..nx],
+        &mut dp_sigma[0..ny],
+        &mut rx[0..nx],
+        &mut tx[0..nx],
+        work,
+        &mut cone_work[0..needed],
+    )
+}

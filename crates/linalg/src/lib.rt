@@ -1,7 +1,5 @@
 // The vector routines of floatgeneric.rs. A routine that takes two lengths answers a plain no, and
 // changes nothing, where they don't fit; no length is too large.
-pub mod matrix;
-
 ghost use mathlib.Core.Path.{_≡_};
 ghost use mathlib.Core.Bool.{_&&_};
 ghost use Rattle.rules.specs.Outcome.{Outcome};

@@ -38,14 +38,14 @@ fn operate(
     ensures { λ r. ⌜ Outcome (transformFits transpose t (now (mat .entry)) (now (x .entry)) (now (y .entry))) (operated transpose t alpha (now (mat .entry)) (now (x .entry)) beta (now (y .entry))) (now (y .entry)) r (now (y .exit)) ⌝ }
 {
     if is_empty(t) {
-        if !linalg::matrix::transform_fits(transpose, t, mat, x, y) {
+        if !matrix::transform_fits(transpose, t, mat, x, y) {
             return false;
         }
         linalg::scale(beta, y);
         return true;
     }
     match t {
-        MatType::General(rows, cols) => linalg::matrix::transform_ge(
+        MatType::General(rows, cols) => matrix::transform_ge(
             transpose,
             rows,
             cols,
@@ -55,7 +55,7 @@ fn operate(
             beta,
             y,
         ),
-        MatType::SymPack(rows) => linalg::matrix::transform_sp(rows, alpha, mat, x, beta, y),
+        MatType::SymPack(rows) => matrix::transform_sp(rows, alpha, mat, x, beta, y),
     }
 }
 
@@ -63,10 +63,10 @@ fn operate(
 fn is_empty(t: MatType) -> bool
     ensures { λ r. ⌜ r ≡ isEmpty t ⌝ }
 {
-    if linalg::matrix::height(false, t) == 0 {
+    if matrix::height(false, t) == 0 {
         return true;
     }
-    linalg::matrix::width(false, t) == 0
+    matrix::width(false, t) == 0
 }
 
 // The absolute sum of each column is added to y.
@@ -94,10 +94,10 @@ fn absadd_dense(transpose: bool, rows: Rows, cols: Cols, mat: &[f64], y: &mut [f
     ensures { λ r. ⌜ Outcome (absaddFits transpose (General rows cols) (now (mat .entry)) (now (y .entry))) (absadded transpose (General rows cols) (now (mat .entry)) (now (y .entry))) (now (y .entry)) r (now (y .exit)) ⌝ }
 {
     let t = MatType::General(rows, cols);
-    if !linalg::matrix::stored_fits(t, mat) {
+    if !matrix::stored_fits(t, mat) {
         return false;
     }
-    if y.len() != linalg::matrix::width(transpose, t) {
+    if y.len() != matrix::width(transpose, t) {
         return false;
     }
     for k in 0..y.len() {
@@ -129,7 +129,7 @@ fn line_sum(transpose: bool, rows: Rows, cols: Cols, mat: &[f64], k: usize) -> f
 fn absadd_packed(rows: Rows, mat: &[f64], y: &mut [f64]) -> bool
     ensures { λ r. ⌜ Outcome (colsFit (SymPack rows) (now (mat .entry)) (now (y .entry))) (absaddedCols (SymPack rows) (now (mat .entry)) (now (y .entry))) (now (y .entry)) r (now (y .exit)) ⌝ }
 {
-    if !linalg::matrix::stored_fits(MatType::SymPack(rows), mat) {
+    if !matrix::stored_fits(MatType::SymPack(rows), mat) {
         return false;
     }
     let n = rows.0;

@@ -25,7 +25,7 @@ fn run(routine: Routine, first: &[f64], second: &[f64], y: &mut [f64]) -> bool {
         Routine::Copy => linalg::copy(first, y),
         Routine::Add(alpha) => linalg::add(alpha, first, y),
         Routine::TransformDi(alpha, beta) => linalg::transform_di(alpha, first, second, beta, y),
-        Routine::TransformGe(transpose, rows, cols, alpha, beta) => linalg::matrix::transform_ge(
+        Routine::TransformGe(transpose, rows, cols, alpha, beta) => matrix::transform_ge(
             transpose,
             rows,
             cols,
@@ -35,7 +35,7 @@ fn run(routine: Routine, first: &[f64], second: &[f64], y: &mut [f64]) -> bool {
             beta,
             y,
         ),
-        Routine::TransformSp(rows, alpha, beta) => linalg::matrix::transform_sp(
+        Routine::TransformSp(rows, alpha, beta) => matrix::transform_sp(
             rows,
             alpha,
             first,

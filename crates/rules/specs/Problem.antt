@@ -23,6 +23,11 @@ pub record Problem : Type 0 where
   pub words : List ℕ
   pub par : SolverParam
 
+-- the problem of these parts
+abbrev pub problemOf : ℕ → ℕ → Storage → List Float → List Float → List Float → List ℕ → SolverParam → Problem
+problemOf m n storage c a b words par =
+    record { m = m; n = n; storage = storage; c = c; a = a; b = b; words = words; par = par }
+
 abbrev pub matrixOf : Storage → ℕ → ℕ → MatType
 matrixOf Dense m n = General (record { 0 = m }) (record { 0 = n })
 matrixOf Packed m n = SymPack (record { 0 = m })

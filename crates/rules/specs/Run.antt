@@ -4,7 +4,7 @@ use mathlib.Core.Bool.{Bool, true, false, cond, _&&_}
 use mathlib.Core.List.{List, [], _∷_, _++_}
 use lib.Dec.{leb}
 use lib.Ieee.{Float, le}
-use lib.ListN.{take, drop}
+use lib.ListN.{length, take, drop}
 use Rattle.rules.specs.declared.Answer.{Answer}
 use Rattle.rules.specs.declared.Ending.{Ending}
 use Rattle.rules.specs.declared.Ending.the-variants.{BadParam, TooLarge, InvalidOp, BadCone, NotFinite, WorkShortage, Converged, ExcessIter, ExcessIterUnscaled, Unbounded, Infeasible, ConeFailure}
@@ -114,6 +114,13 @@ unfolding scaled reciprocal
 finalX p e x =
     let by = reciprocal (tauOf (embed p) x) in
     cond (isScaled e) (scaled by (xX (embed p) x) ++ scaled by (xY (embed p) x) ++ drop (p .n + p .m) x) x
+
+-- "x is the first n places of work, y the next m; each is handed back as a part of work, empty if work is too short to hold it."
+unfoldable pub solutionX : ℕ → List Float → List Float
+solutionX n work = cond (leb n (length work)) (take n work) []
+
+unfoldable pub solutionY : ℕ → ℕ → List Float → List Float
+solutionY m n work = cond (leb (n + m) (length work)) (take m (drop n work)) []
 
 -- all of work
 abbrev pub laidOut : Problem → Ending → State → List Float

@@ -18,17 +18,16 @@ use Rattle.rules.specs.Limits.{limit}
 use Rattle.rules.specs.Matrices.{nRow, nCol}
 use Rattle.rules.specs.Projections.{sweepsFit}
 use Rattle.rules.specs.Product.{coneWork}
-use Rattle.rules.specs.Problem.{Problem, asRead, blocks, matrixOf, lengthX, lengthY}
+use Rattle.rules.specs.Problem.{Problem, asRead, blocks, matrixOf, lengthX, lengthY, problemOf}
 use Rattle.rules.specs.Prepare.{zeros}
 use Rattle.rules.specs.Run.{leftBy}
 use Rattle.rules.specs.Refusals.{refused, refusal, isPacked, readProblem, turnedAway, solved, SolveOutcome}
 use Rattle.rules.proofs.Accepted.{Accepted, accepted-fits}
 use Rattle.rules.proofs.OldContents.{solved-accepted}
 use Rattle.rules.proofs.Parts.{put, from-start}
-use Rattle.solver.specs.declared.checks.Checked.{Checked}
-use Rattle.solver.specs.declared.checks.Checked.the-variants.{Accepted as Passed, Refused}
-use Rattle.solver.specs.Check.{asRefusal}
-use Rattle.solver.specs.Fitting.{problemOf}
+use Rattle.checks.specs.declared.Checked.{Checked}
+use Rattle.checks.specs.declared.Checked.the-variants.{Accepted as Passed, Refused}
+use Rattle.checks.specs.Check.{asRefusal}
 use Rattle.solver.specs.Solve.{Taken, LeftAs, Lent, AtZero, RanIn}
 
 solved-refused : (p : Problem) (work cone : List Float) (e : Ending) → refusal p (length work) (length cone) ≡ refused e → solved p work cone ≡ turnedAway e work cone

@@ -4,19 +4,18 @@ use native.Mathlib.Omega.{arith}
 use mathlib.Core.Path.{_≡_, refl, ap, _∙_}
 use mathlib.Core.Bool.{true, false}
 use mathlib.Core.List.{List, [], _∷_, _++_, append-assoc}
-use lib.Ieee.{Float, eq}
-use lib.ListN.{length, take, drop, replicate, length-append}
+use lib.Ieee.{Float}
+use lib.ListN.{length, take, drop, replicate, length-append, length-drop}
 use lib.Seq.{take-at, drop-at, drop-drop}
-use Rattle.rules.specs.Helpers.{reciprocal}
-use Rattle.rules.specs.Arithmetic.{+0, at, each, eachTo}
+use Rattle.rules.specs.Helpers.{one, reciprocal}
+use Rattle.rules.specs.Arithmetic.{_*ᶠ_, _/ᶠ_, +0, at, each, eachTo}
 use Rattle.rules.specs.Vectors.{scaled}
-use Rattle.rules.specs.Problem.{Problem, asRead}
+use Rattle.rules.specs.Problem.{Problem, lengthX}
 use Rattle.rules.specs.Prepare.{zeros}
 use Rattle.rules.specs.Step.{part}
 use Rattle.rules.specs.Run.{finalX, isScaled}
 use Rattle.rules.specs.declared.Ending.{Ending}
-use Rattle.rules.specs.declared.SolverParam.{SolverParam}
-use Rattle.rules.proofs.Parts.{put, drop-rest, first-put, next-put}
+use Rattle.rules.proofs.Parts.{put, drop-rest}
 use Rattle.solver.specs.Solution.{finishedX, copiedTo}
 
 pub cleared : (v : List Float) → each (λ k w. +0) v ≡ zeros (length v)
@@ -48,28 +47,34 @@ pub laid-more : {new w w' w'' : List Float} {a : ℕ} (v : List Float) → Laid 
 laid-more {new} {w} {w'} {w''} {a} v l e =
     record { is = rw (l .is) at e ∙ copied-next a v new w (l .to); to = length-append new v ∙ rw (l .to) }
 
-pub put-2 : (n m : ℕ) (w p q : List Float) → length p ≡ n → length q ≡ m → put n (n + m) (put 0 n w p) q ≡ p ++ q ++ drop (n + m) w
-put-2 n m w p q hp hq = rw (first-put n m 0 w p q hp hq, next-put n (n + m) p w hp (omega arith) q)
+-- x and y over tau, or neither: the first places are multiplied in one pass
+times-first : (by : Float) (m : ℕ) (x : List Float) → m ≤ length x → eachTo (λ k v. by *ᶠ v) m x ≡ scaled by (take m x) ++ drop m x
+unfolding scaled each eachTo
+times-first by zero x h = refl
+times-first by (suc m) [] h = absurd (omega arith)
+times-first by (suc m) (v ∷ x) h = ap (λ (l : List Float). by *ᶠ v ∷ l) (times-first by m x (omega arith))
 
--- x and y over tau, or neither
-pub finished-by : (m n : ℕ) (x p q : List Float) (by : Float) → by ≡ reciprocal (at x (n + m + m)) → p ≡ scaled by (part 0 n x) → q ≡ scaled by (part n m x)
-    → p ++ q ++ drop (n + m) x ≡ finishedX m n true x
-unfolding finishedX
-finished-by m n x p q by e f g = rw (f, g, e)
+times-next : (by : Float) (n m k : ℕ) (x : List Float) → k ≡ n + m → n ≤ length x → eachTo (λ i v. by *ᶠ v) k x ≡ scaled by (take n x) ++ eachTo (λ i v. by *ᶠ v) m (drop n x)
+unfolding scaled each eachTo
+times-next by zero m k x e h =
+    let same : k ≡ m = omega arith in
+    rw same
+times-next by (suc n) m k [] e h = absurd (omega arith)
+times-next by (suc n) m zero (v ∷ x) e h = absurd (omega arith)
+times-next by (suc n) m (suc k) (v ∷ x) e h = ap (λ (l : List Float). by *ᶠ v ∷ l) (times-next by n m k x (omega arith) (omega arith))
+
+finished-is : (m n : ℕ) (x : List Float) → finishedX m n true x ≡ scaled (one /ᶠ at x (n + m + m)) (take n x) ++ scaled (one /ᶠ at x (n + m + m)) (take m (drop n x)) ++ drop (n + m) x
+unfolding finishedX reciprocal
+finished-is m n x = refl
+
+pub finished-by : (m n : ℕ) (x x' : List Float) (by : Float) → by ≡ one /ᶠ at x (n + m + m) → length x ≡ lengthX m n → x' ≡ eachTo (λ k v. by *ᶠ v) (n + m) x → x' ≡ finishedX m n true x
+finished-by m n x x' by e h is =
+    let long : m ≤ length (drop n x) = rw (length-drop n x) (omega arith) in
+    is ∙ times-next by n m (n + m) x refl (omega arith) ∙ rw (times-first by m (drop n x) long, drop-drop m n x, finished-is m n x, e, append-assoc)
 
 pub finished-not : (m n : ℕ) (x : List Float) → x ≡ finishedX m n false x
 unfolding finishedX
 finished-not m n x = refl
-
--- eps_zero as it is read
-pub read-zero : (par : SolverParam) → eq (par .«eps_zero») +0 ≡ true
-    → record { «max_iter» = par .«max_iter»; «eps_acc» = par .«eps_acc»; «eps_inf» = par .«eps_inf»; «eps_zero» = +0; «sweep_limit» = par .«sweep_limit» } ≡ asRead par
-unfolding asRead
-read-zero par e = rw e
-
-pub read-other : (par : SolverParam) → eq (par .«eps_zero») +0 ≡ false → par ≡ asRead par
-unfolding asRead
-read-other par e = rw e
 
 -- the rule's last vector is the code's
 pub final-finished : (p : Problem) (e : Ending) (x : List Float) → finalX p e x ≡ finishedX (p .m) (p .n) (isScaled e) x

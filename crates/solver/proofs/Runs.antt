@@ -20,11 +20,11 @@ use Rattle.rules.specs.Criteria.{Criteria, judged}
 use Rattle.rules.specs.Run.{Turn, turn, Verdict, goesOn, ends, verdict, allowance, Ended, finished, runFrom, isConeFailure}
 use Rattle.rules.proofs.Run.{goes-on-exactly}
 use Rattle.solver.specs.declared.run.Turned.{Turned}
-use Rattle.solver.specs.declared.verdict.Verdict.{Verdict as Said}
-use Rattle.solver.specs.declared.verdict.Verdict.the-variants.{Ends}
+use Rattle.verdict.specs.declared.Verdict.{Verdict as Said}
+use Rattle.verdict.specs.declared.Verdict.the-variants.{Ends}
 use Rattle.solver.specs.Fitting.{stateOf, Ready}
 use Rattle.solver.specs.Update.{Updated}
-use Rattle.solver.specs.Verdict.{asVerdict}
+use Rattle.verdict.specs.Verdict.{asVerdict}
 use Rattle.solver.specs.Run.{TurnedBy, AsEnded, Iterated}
 use Rattle.solver.proofs.Cones.{pass-rotations, answer-done, answer-failed, answer-some}
 

@@ -14,9 +14,9 @@ use Rattle.rules.specs.Helpers.{one, smaller}
 use Rattle.rules.specs.Arithmetic.{+0, at}
 use Rattle.rules.specs.Vectors.{transformedDi}
 use Rattle.rules.specs.Product.{none, block, productAnswer, ProductOutcome}
-use Rattle.rules.specs.Problem.{Problem, embed, lengthY}
+use Rattle.rules.specs.Problem.{Problem, embed, lengthY, problemOf}
 use Rattle.rules.specs.Step.{State, transOpK, movedX, projected, tauTaken, movedY, updated}
-use Rattle.solver.specs.Fitting.{problemOf, stateOf}
+use Rattle.solver.specs.Fitting.{stateOf}
 use Rattle.solver.specs.Update.{XMoved, YMoved, projectedBy, takenAt, nextRx, nextTy, nextY, Updated}
 use Rattle.solver.proofs.Cones.{answer-failed, answer-some}
 

@@ -6,8 +6,6 @@ use mathlib.Core.List.{List}
 use lib.Ieee.{Float}
 use lib.ListN.{length}
 use Rattle.rules.specs.declared.MatType.{MatType}
-use Rattle.rules.specs.declared.SolverParam.{SolverParam}
-use Rattle.rules.specs.declared.Storage.{Storage}
 use Rattle.rules.specs.Limits.{limit}
 use Rattle.rules.specs.Matrices.{nRow, nCol, storedLength, Stored}
 use Rattle.rules.specs.Blocks.{hasBadWord, totalPlaces}
@@ -18,10 +16,6 @@ use Rattle.rules.specs.Step.{State}
 
 abbrev pub embedOf : ℕ → ℕ → MatType → List Float → List Float → List Float → Embed
 embedOf m n t c a b = record { m = m; n = n; t = t; c = c; a = a; b = b }
-
-abbrev pub problemOf : ℕ → ℕ → Storage → List Float → List Float → List Float → List ℕ → SolverParam → Problem
-problemOf m n storage c a b words par =
-    record { m = m; n = n; storage = storage; c = c; a = a; b = b; words = words; par = par }
 
 abbrev pub stateOf : List Float → List Float → List Float → List Float → List Float → List Float → List Float → State
 stateOf x y dpTau dpSigma rx tx cone =

@@ -2,7 +2,6 @@ pub mod Fitting
 pub mod Update
 pub mod Verdict
 pub mod Preparing
-pub mod Check
 pub mod Solution
 pub mod Run
 pub mod Solve

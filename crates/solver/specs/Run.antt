@@ -9,7 +9,7 @@ use Rattle.rules.specs.Step.{State}
 use Rattle.rules.specs.Prepare.{Norms}
 use Rattle.rules.specs.Run.{turn, verdict, allowance, Ended, runFrom, isConeFailure}
 use Rattle.solver.specs.declared.run.Turned.{Turned}
-use Rattle.solver.specs.Verdict.{asVerdict}
+use Rattle.verdict.specs.Verdict.{asVerdict}
 
 -- Step k from s: what it says, and the state that it leaves where no cone failed.
 pub record TurnedBy (p : Problem) (ns : Norms) (k : ℕ) (s : State) (r : Turned) (s' : State) : Type 0 where

@@ -1,21 +1,13 @@
--- Document 01, "How a run ends": "x is the first n places of work, y the next m; each is handed back as a part of work, empty if work is too
--- short to hold it."
+-- What the pieces of work become when a run ends.
 use Prim.Native.Nat.{ℕ, _+_}
 use mathlib.Core.Bool.{Bool, cond}
-use mathlib.Core.List.{List, [], _++_}
-use lib.Dec.{leb}
+use mathlib.Core.List.{List, _++_}
 use lib.Ieee.{Float}
 use lib.ListN.{length, take, drop}
 use Rattle.rules.specs.Helpers.{reciprocal}
 use Rattle.rules.specs.Arithmetic.{at}
 use Rattle.rules.specs.Vectors.{scaled}
 use Rattle.rules.specs.Step.{part}
-
-unfoldable pub solutionX : ℕ → List Float → List Float
-solutionX n work = cond (leb n (length work)) (take n work) []
-
-unfoldable pub solutionY : ℕ → ℕ → List Float → List Float
-solutionY m n work = cond (leb (n + m) (length work)) (take m (drop n work)) []
 
 -- finalX of the run, by the sizes and whether the ending scales
 unfoldable pub finishedX : ℕ → ℕ → Bool → List Float → List Float

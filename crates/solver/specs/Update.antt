@@ -15,9 +15,8 @@ use Rattle.rules.specs.Vectors.{added, transformedDi}
 use Rattle.rules.specs.Blocks.{hasBadWord, blocksOf, totalPlaces}
 use Rattle.rules.specs.Projections.{sweepsFit}
 use Rattle.rules.specs.Product.{Passed, none, productAnswer}
-use Rattle.rules.specs.Problem.{Problem, Embed, lengthY}
+use Rattle.rules.specs.Problem.{Problem, Embed, lengthY, problemOf}
 use Rattle.rules.specs.Step.{State, opK, transOpK, projected, updated}
-use Rattle.solver.specs.Fitting.{problemOf}
 
 -- x, rx and tx after x was moved
 pub record XMoved (k : Embed) (x y dpTau tx x' rx' tx' : List Float) : Type 0 where

@@ -1,8 +1,6 @@
 // The entry point, which checks for itself, and an accepted run with vectors of its own.
-use crate::checks;
-use crate::checks::Checked;
-use crate::parts;
 use crate::solving;
+use checks::Checked;
 use rules::Answer;
 use rules::Cols;
 use rules::LIMIT;
@@ -10,7 +8,7 @@ use rules::Rows;
 use rules::SolverParam;
 use rules::Storage;
 ghost use Rattle.rules.specs.Refusals.{SolveOutcome};
-ghost use Rattle.solver.specs.Fitting.{problemOf};
+ghost use Rattle.rules.specs.Problem.{problemOf};
 ghost use Rattle.solver.specs.Solve.{Taken, LeftAs};
 
 // The longest x and the longest y.
@@ -55,7 +53,7 @@ pub fn solve(
         },
         Checked::Accepted => {
             accepted(
-                parts::read_eps(par),
+                checks::read_eps(par),
                 m,
                 n,
                 storage,

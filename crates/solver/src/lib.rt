@@ -1,8 +1,8 @@
-// The solver: an entry point that checks for itself, and the two routines that hand back x and y.
-mod checks;
+// The solver: an entry point that checks for itself.
 mod criteria;
 mod embed;
 mod entry;
+mod judge;
 mod parts;
 mod pieces;
 mod prepare;
@@ -10,8 +10,5 @@ mod run;
 mod shape;
 mod solving;
 mod update;
-mod verdict;
 
 pub use entry::solve;
-pub use parts::solution_x;
-pub use parts::solution_y;

@@ -1,60 +1,11 @@
-// The pieces of work: where x and y stand, how a run's vectors come into it, and eps_zero as it is read.
-use rules::Cols;
-use rules::Rows;
-use rules::SolverParam;
+// How a run's vectors come into work.
 ghost use Prim.Native.Nat.{_+_, _≤_};
 ghost use mathlib.Core.Path.{_≡_};
 ghost use mathlib.Core.List.{_++_};
 ghost use lib.ListN.{length, drop};
-ghost use Rattle.rules.specs.Problem.{asRead};
 ghost use Rattle.rules.specs.Prepare.{zeros};
 ghost use Rattle.solver.specs.Fitting.{LikeX};
-ghost use Rattle.solver.specs.Solution.{solutionX, solutionY, finishedX, copiedTo};
-
-// The first places of work; none where it is too short.
-pub fn solution_x(work: &[f64], cols: Cols) -> &[f64]
-    ensures { λ r. ⌜ now r ≡ solutionX (cols .0) (now (work .entry)) ⌝ }
-{
-    let end = cols.0;
-    if end <= work.len() {
-        &work[0..end]
-    } else {
-        &work[..0]
-    }
-}
-
-// The places of work after x; none where it is too short to hold x and them.
-pub fn solution_y(work: &[f64], rows: Rows, cols: Cols) -> &[f64]
-    ensures { λ r. ⌜ now r ≡ solutionY (rows .0) (cols .0) (now (work .entry)) ⌝ }
-{
-    let m = rows.0;
-    let n = cols.0;
-    if n <= work.len() {
-        if m <= work.len() - n {
-            &work[n..n + m]
-        } else {
-            &work[..0]
-        }
-    } else {
-        &work[..0]
-    }
-}
-
-// An eps_zero of -0 is read as +0.
-pub fn read_eps(par: SolverParam) -> SolverParam
-    ensures { λ r. ⌜ r ≡ asRead par ⌝ }
-{
-    if par.eps_zero == 0.0 {
-        return SolverParam {
-            max_iter: par.max_iter,
-            eps_acc: par.eps_acc,
-            eps_inf: par.eps_inf,
-            eps_zero: 0.0,
-            sweep_limit: par.sweep_limit,
-        };
-    }
-    par
-}
+ghost use Rattle.solver.specs.Solution.{finishedX, copiedTo};
 
 // x and y over tau, where the ending asks for it.
 pub fn finish(m: usize, n: usize, by_tau: bool, x: &mut [f64])
@@ -62,10 +13,11 @@ pub fn finish(m: usize, n: usize, by_tau: bool, x: &mut [f64])
     ensures { λ _. ⌜ now (x .exit) ≡ finishedX m n «by_tau» (now (x .entry)) ⌝ }
 {
     if by_tau {
-        let nm = n + m;
-        let by = float::reciprocal(x[nm + m]);
-        linalg::scale(by, &mut x[0..n]);
-        linalg::scale(by, &mut x[n..nm]);
+        let end = n + m;
+        let by = 1.0 / x[end + m];
+        for i in 0..end {
+            x[i] = by * x[i];
+        }
     }
 }
 

@@ -11,10 +11,9 @@ ghost use mathlib.Core.Path.{_≡_};
 ghost use mathlib.Core.List.{_++_};
 ghost use lib.ListN.{length, drop};
 ghost use Rattle.rules.specs.Limits.{limit};
-ghost use Rattle.rules.specs.Problem.{workLength};
+ghost use Rattle.rules.specs.Problem.{workLength, problemOf};
 ghost use Rattle.rules.specs.Prepare.{zeros};
-ghost use Rattle.rules.specs.Run.{isScaled, isConeFailure};
-ghost use Rattle.solver.specs.Fitting.{problemOf, stateOf, LikeX, LikeY, Ready};
+ghost use Rattle.solver.specs.Fitting.{stateOf, LikeX, LikeY, Ready};
 ghost use Rattle.solver.specs.Solve.{Prepared, SettledBy};
 ghost use Rattle.solver.specs.Verdict.{normsOf};
 
@@ -72,51 +71,13 @@ pub fn settle(
     requires { ⌜ workLength m n ≤ length (now work) ⌝ }
     ensures { λ _. ⌜ SettledBy m n ending (stateOf (now (x .entry)) (now (y .entry)) (now («dp_tau» .entry)) (now («dp_sigma» .entry)) (now (rx .entry)) (now (tx .entry)) (now («cone_work» .entry))) (now (work .entry)) (now (work .exit)) (now («cone_work» .exit)) ⌝ }
 {
-    if is_cone_failure(ending) {
+    if verdict::is_cone_failure(ending) {
         clear_front(m, n, work);
         parts::clear(cone_work);
         return;
     }
-    parts::finish(m, n, is_scaled(ending), x);
+    parts::finish(m, n, verdict::is_scaled(ending), x);
     parts::lay_out(x, y, dp_tau, dp_sigma, rx, tx, work);
-}
-
-fn is_cone_failure(ending: Ending) -> bool
-    ensures { λ r. ⌜ r ≡ isConeFailure ending ⌝ }
-{
-    match ending {
-        Ending::BadParam => false,
-        Ending::TooLarge => false,
-        Ending::InvalidOp => false,
-        Ending::BadCone => false,
-        Ending::NotFinite => false,
-        Ending::WorkShortage => false,
-        Ending::Converged(_, _, _) => false,
-        Ending::ExcessIter(_, _, _) => false,
-        Ending::ExcessIterUnscaled(_, _) => false,
-        Ending::Unbounded(_) => false,
-        Ending::Infeasible(_) => false,
-        Ending::ConeFailure(_) => true,
-    }
-}
-
-fn is_scaled(ending: Ending) -> bool
-    ensures { λ r. ⌜ r ≡ isScaled ending ⌝ }
-{
-    match ending {
-        Ending::BadParam => false,
-        Ending::TooLarge => false,
-        Ending::InvalidOp => false,
-        Ending::BadCone => false,
-        Ending::NotFinite => false,
-        Ending::WorkShortage => false,
-        Ending::Converged(_, _, _) => true,
-        Ending::ExcessIter(_, _, _) => true,
-        Ending::ExcessIterUnscaled(_, _) => false,
-        Ending::Unbounded(_) => false,
-        Ending::Infeasible(_) => false,
-        Ending::ConeFailure(_) => false,
-    }
 }
 
 // The required part of work becomes +0.

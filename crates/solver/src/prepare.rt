@@ -14,11 +14,11 @@ ghost use Rattle.rules.specs.Helpers.{one};
 ghost use Rattle.rules.specs.Arithmetic.{+0};
 ghost use Rattle.rules.specs.Vectors.{scaled, added};
 ghost use Rattle.rules.specs.Matrices.{nRow, nCol, Stored, absaddedCols, absaddedRows};
-ghost use Rattle.rules.specs.Problem.{column};
+ghost use Rattle.rules.specs.Problem.{column, problemOf};
 ghost use Rattle.rules.specs.Step.{part};
 ghost use Rattle.rules.specs.Prepare as rules;
 ghost use Rattle.rules.specs.Prepare.{columnIn, withB, withC, frNorm, norms, dpTauOf, dpSigmaOf};
-ghost use Rattle.solver.specs.Fitting.{embedOf, problemOf, Fits, LikeX, LikeY, Ready};
+ghost use Rattle.solver.specs.Fitting.{embedOf, Fits, LikeX, LikeY, Ready};
 ghost use Rattle.solver.specs.Preparing.{columnSums, rowSums, rowsOf, groupedParts, Grouping};
 
 // The norms of b, then c, worked out at the front of x.

@@ -1,16 +1,17 @@
 // The run: a loop over steps, up to the one that ends.
+use crate::judge;
 use crate::shape::Norms;
 use crate::update;
-use crate::verdict;
-use crate::verdict::Verdict;
 use rules::Answer;
 use rules::Ending;
 use rules::Product;
 use rules::SolverParam;
 use rules::Storage;
+use verdict::Verdict;
 ghost use Prim.Native.Nat.{_≤_};
 ghost use Rattle.rules.specs.Limits.{mostSteps};
-ghost use Rattle.solver.specs.Fitting.{problemOf, stateOf, LikeX, LikeY, Ready, Needed};
+ghost use Rattle.rules.specs.Problem.{problemOf};
+ghost use Rattle.solver.specs.Fitting.{stateOf, LikeX, LikeY, Ready, Needed};
 ghost use Rattle.solver.specs.Run.{TurnedBy, Iterated};
 ghost use Rattle.solver.specs.Verdict.{normsOf};
 
@@ -138,7 +139,7 @@ fn turn(
     );
     match p {
         Product::Done(q) => {
-            let v = verdict::judge(par, m, n, storage, c, a, b, norms, k, x, rx);
+            let v = judge::judge(par, m, n, storage, c, a, b, norms, k, x, rx);
             Turned {
                 verdict: v,
                 rotations: q,

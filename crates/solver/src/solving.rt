@@ -5,7 +5,7 @@ use crate::run;
 use rules::Answer;
 use rules::SolverParam;
 use rules::Storage;
-ghost use Rattle.solver.specs.Fitting.{problemOf};
+ghost use Rattle.rules.specs.Problem.{problemOf};
 ghost use Rattle.solver.specs.Solve.{Lent, AtZero, RanIn};
 
 // The whole run, with its six vectors at zero.

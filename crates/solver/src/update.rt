@@ -12,7 +12,8 @@ ghost use lib.ListN.{length};
 ghost use Rattle.rules.specs.Limits.{limit};
 ghost use Rattle.rules.specs.Blocks.{blocksOf};
 ghost use Rattle.rules.specs.Product.{ProductOutcome, coneWork};
-ghost use Rattle.solver.specs.Fitting.{embedOf, problemOf, stateOf, Fits, LikeX, LikeY, Ready, Needed};
+ghost use Rattle.rules.specs.Problem.{problemOf};
+ghost use Rattle.solver.specs.Fitting.{embedOf, stateOf, Fits, LikeX, LikeY, Ready, Needed};
 ghost use Rattle.solver.specs.Update.{XMoved, YMoved, ConesReady, projectedBy, takenAt, Updated};
 
 // What the cone makes of a step: the rotations, or the block that failed with the rotations up to

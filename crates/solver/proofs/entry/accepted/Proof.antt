@@ -1,7 +1,7 @@
 -- `solver::entry::accepted` meets its contract: the vectors start as +0, and of cone work the required part is lent.
 use mathlib.Core.Path.{refl}
 use borrow.Author.Needs.{needs}
-use Rattle.solver.specs.Fitting.{problemOf}
+use Rattle.rules.specs.Problem.{problemOf}
 use Rattle.solver.proofs.Outcomes.{lent, at-zero, left-as}
 use Rattle.solver.proofs.entry.accepted.Statement.{statement}
 use Rattle.solver.proofs.entry.accepted.Tie as tie

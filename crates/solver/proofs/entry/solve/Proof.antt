@@ -1,6 +1,6 @@
 -- `solver::entry::solve` meets its contract: turned away by the check, or run as the problem is read.
 use borrow.Author.Needs.{needs}
-use Rattle.solver.specs.Fitting.{problemOf}
+use Rattle.rules.specs.Problem.{problemOf}
 use Rattle.solver.proofs.Outcomes.{taken, turned-away, went-through}
 use Rattle.solver.proofs.entry.solve.Statement.{statement}
 use Rattle.solver.proofs.entry.solve.Tie as tie

@@ -1,92 +1,90 @@
 -- `solver::parts::finish` meets its contract.
 use borrow.Author.Needs.{needs}
 use native.Mathlib.Omega.{arith}
-use mathlib.Core.Path.{_≡_, _∙_}
-use lib.ListN.{length}
-use Rattle.rules.proofs.Parts.{from-start, lent-2}
-use Rattle.solver.proofs.Parted.{put-2, finished-by, finished-not}
+use Prim.Native.Nat.{_+_, _-_, _≤_}
+use mathlib.Core.Path.{_≡_, refl}
+use lib.Ieee.{ofBits}
+use Rattle.rules.specs.Helpers.{one}
+use Rattle.rules.specs.Arithmetic.{_*ᶠ_}
+use Rattle.rules.proofs.Arithmetic.{Reached, reached-none, reached-more}
+use Rattle.solver.proofs.Parted.{finished-by, finished-not}
 use Rattle.solver.proofs.parts.finish.Statement.{statement}
 use Rattle.solver.proofs.parts.finish.Tie as tie
 
-add-nm : tie.Need-add-nm
-add-nm c = search needs
+abbrev Inv-loop : tie.InvT-loop
+Inv-loop m n byTau x₀ end by i₀ x i = Reached (λ k v. by *ᶠ v) i x₀ x × (end ≡ n + m) × (i ≤ end)
 
-add-reciprocal : tie.Need-add-reciprocal
-add-reciprocal c = search needs
+abbrev μ-loop : tie.MeasureT-loop
+μ-loop m n byTau x₀ end by i₀ x i = n + m - i
 
-mul-reciprocal : tie.Need-mul-reciprocal
-mul-reciprocal c = search needs
+add-end : tie.Need-add-end Inv-loop μ-loop
+add-end c = search needs
 
-slice-read-reciprocal : tie.Need-slice-read-reciprocal
-slice-read-reciprocal c = search needs
+add-by : tie.Need-add-by Inv-loop μ-loop
+add-by c = search needs
 
-reciprocal-requires : tie.Need-reciprocal-requires
-reciprocal-requires c κs = search needs
+mul-by : tie.Need-mul-by Inv-loop μ-loop
+mul-by c = search needs
 
-sub-scale : tie.Need-sub-scale
-sub-scale c = search needs
+slice-read-by : tie.Need-slice-read-by Inv-loop μ-loop
+slice-read-by c = search needs
 
-part-scale-start : tie.Need-part-scale-start
-part-scale-start c = search needs
+loop-holds : tie.Need-loop-holds Inv-loop μ-loop
+loop-holds c = (reached-none _ _, refl, search needs)
 
-part-scale-end : tie.Need-part-scale-end
-part-scale-end c = search needs
+mul-x : tie.Need-mul-x Inv-loop μ-loop
+mul-x c = search needs
 
-scale-requires : tie.Need-scale-requires
-scale-requires c κs = search needs
+slice-read-x : tie.Need-slice-read-x Inv-loop μ-loop
+slice-read-x c = search needs
 
-mul-scale : tie.Need-mul-scale
-mul-scale c = search needs
+mul-x-2 : tie.Need-mul-x-2 Inv-loop μ-loop
+mul-x-2 c = search needs
 
-sub-scale-2 : tie.Need-sub-scale-2
-sub-scale-2 c = search needs
+slice-write-x : tie.Need-slice-write-x Inv-loop μ-loop
+slice-write-x c = search needs
 
-part-scale-start-2 : tie.Need-part-scale-start-2
-part-scale-start-2 c = search needs
+add-i : tie.Need-add-i Inv-loop μ-loop
+add-i c = search needs
 
-part-scale-end-2 : tie.Need-part-scale-end-2
-part-scale-end-2 c = search needs
+loop-less : tie.Need-loop-less Inv-loop μ-loop
+loop-less c = search needs
 
-scale-requires-2 : tie.Need-scale-requires-2
-scale-requires-2 c κs = search needs
+loop-again : tie.Need-loop-again Inv-loop μ-loop
+loop-again c = (reached-more (c .before .before .loop .inv .0) (search needs), c .before .before .loop .inv .1, search needs)
 
-same-length : tie.Need-same-length
+same-length : tie.Need-same-length Inv-loop μ-loop
 same-length c = search needs
 
-returns : tie.Need-returns
+returns : tie.Need-returns Inv-loop μ-loop
+unfolding one ofBits
 returns c =
-    let start = c .before .before .before .before .before .before .before .before .before .before .before .before in
-    let k = start .args in
-    let w = k .x .now in
-    let p = c .before .before .before .before .before .before .scale .last .1 .0 in
-    let q = c .before .before .scale2 .last .1 .0 in
-    let p-length : length p ≡ k .n = omega (arith, start .pre, c .before .before .before .before .before .before .scale .kept, c .before .before .before .before .before .before .before .scale-arg) in
-    let q-length : length q ≡ k .m = omega (arith, start .pre, c .before .before .scale2 .kept, c .before .before .before .scale-arg2) in
-    let first = rw (from-start (k .n)) at (c .before .before .before .before .before .before .scale .ensures) in
-    let second = rw (lent-2 (k .n) (k .m) 1 w p q p-length q-length) at (c .before .before .scale2 .ensures) in
-    rw (c .before .before .before .before .before .before .before .before .before .before .if1 .taken) (put-2 (k .n) (k .m) w p q p-length q-length ∙ finished-by (k .m) (k .n) w p q _ (c .before .before .before .before .before .before .before .before .reciprocal .ensures) first second)
+    let k = c .before .before .before .before .args in
+    let l = c .before .loop in
+    let all : l .i ≡ k .n + k .m = omega (arith, l .inv .1, l .inv .2, c .loop-test) in
+    rw (c .before .before .before .if1 .taken) (finished-by (k .m) (k .n) _ _ _ refl (c .before .before .before .before .pre .is) (rw all at (l .inv .0 .is)))
 
-returns-2 : tie.Need-returns-2
-returns-2 c = rw (c .if1 .left) (finished-not (c .before .before .args .m) (c .before .before .args .n) _)
+returns-2 : tie.Need-returns-2 Inv-loop μ-loop
+returns-2 c = rw (c .if1 .left) (finished-not (c .before .args .m) (c .before .args .n) _)
 
 pub finish-spec : {M : Type 1} → statement M
 finish-spec =
     tie.close
     (tie.spec
-    add-nm
-    add-reciprocal
-    mul-reciprocal
-    slice-read-reciprocal
-    reciprocal-requires
-    sub-scale
-    part-scale-start
-    part-scale-end
-    scale-requires
-    mul-scale
-    sub-scale-2
-    part-scale-start-2
-    part-scale-end-2
-    scale-requires-2
+    Inv-loop
+    μ-loop
+    add-end
+    add-by
+    mul-by
+    slice-read-by
+    loop-holds
+    mul-x
+    slice-read-x
+    mul-x-2
+    slice-write-x
+    add-i
+    loop-less
+    loop-again
     same-length
     returns
     returns-2)

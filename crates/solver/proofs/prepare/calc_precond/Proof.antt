@@ -1,6 +1,6 @@
 -- `solver::prepare::calc_precond` meets its contract.
 use mathlib.Core.Path.{sym, _∙_}
-use Rattle.solver.specs.Fitting.{problemOf}
+use Rattle.rules.specs.Problem.{problemOf}
 use Rattle.solver.proofs.Preparing.{dpTau-is, dpSigma-is}
 use borrow.Author.Needs.{needs}
 use Rattle.solver.proofs.prepare.calc_precond.Statement.{statement}

@@ -4,8 +4,10 @@ use native.Mathlib.Omega.{arith}
 use mathlib.Core.Path.{ap}
 use borrow.Author.Needs.{needs}
 use Rattle.rules.specs.Run.{allowance}
-use Rattle.solver.specs.Fitting.{problemOf, stateOf, LikeX, LikeY, Needed}
-use Rattle.solver.specs.Verdict.{asVerdict, normsOf}
+use Rattle.rules.specs.Problem.{problemOf}
+use Rattle.solver.specs.Fitting.{stateOf, LikeX, LikeY, Needed}
+use Rattle.solver.specs.Verdict.{normsOf}
+use Rattle.verdict.specs.Verdict.{asVerdict}
 use Rattle.solver.proofs.Runs.{Running, running-start, running-counts, running-before, running-more, running-end}
 use Rattle.solver.proofs.run.iterate.Statement.{statement}
 use Rattle.solver.proofs.run.iterate.Tie as tie

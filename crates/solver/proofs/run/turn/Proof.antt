@@ -1,7 +1,8 @@
 -- `solver::run::turn` meets its contract.
 use native.Mathlib.Omega.{arith}
 use borrow.Author.Needs.{needs}
-use Rattle.solver.specs.Fitting.{problemOf, stateOf}
+use Rattle.rules.specs.Problem.{problemOf}
+use Rattle.solver.specs.Fitting.{stateOf}
 use Rattle.solver.specs.Verdict.{normsOf}
 use Rattle.solver.proofs.Runs.{turned-done, turned-failed, turned-some}
 use Rattle.solver.proofs.run.turn.Statement.{statement}

@@ -5,7 +5,7 @@ use mathlib.Core.Path.{_≡_, refl, sym, ap, _∙_}
 use borrow.Author.Needs.{needs}
 use lib.ListN.{length}
 use Rattle.solver.proofs.Updated.{step-some, step-failed, step-done}
-use Rattle.solver.specs.Fitting.{problemOf}
+use Rattle.rules.specs.Problem.{problemOf}
 use Rattle.solver.proofs.update.update_vecs.Statement.{statement}
 use Rattle.solver.proofs.update.update_vecs.Tie as tie
 

@@ -1,0 +1,172 @@
+// When the hub is turned away: the six tests, in order. Sizes are bounded before any arithmetic on them.
+use rules::Ending;
+use rules::LIMIT;
+use rules::MOST_STEPS;
+use rules::SWEEPS;
+use rules::SolverParam;
+use rules::Storage;
+use rules::WORDS;
+ghost use Prim.Native.Nat.{_≤_};
+ghost use mathlib.Core.Path.{_≡_};
+ghost use Rattle.rules.specs.Limits.{limit};
+ghost use Rattle.rules.specs.Refusals.{isFinite, allFinite, badParam, refusal};
+ghost use Rattle.rules.specs.Problem.{problemOf, asRead};
+ghost use Rattle.checks.specs.Check.{asRefusal, largeSizes, wrongLengths, someInfinite, shortBuffers};
+
+pub enum Checked {
+    Accepted,
+    Refused(Ending),
+}
+
+// The first test that applies.
+pub fn check(
+    par: SolverParam,
+    m: usize,
+    n: usize,
+    storage: Storage,
+    c: &[f64],
+    a: &[f64],
+    b: &[f64],
+    words: &[u16],
+    work: usize,
+    cone_work: usize,
+) -> Checked
+    ensures { λ r. ⌜ asRefusal r ≡ refusal (problemOf m n storage (now (c .entry)) (now (a .entry)) (now (b .entry)) (now (words .entry)) par) work «cone_work» ⌝ }
+{
+    let param_is_bad = bad_param(par);
+    let size_is_too_large = too_large(m, n, words);
+    if param_is_bad {
+        return Checked::Refused(Ending::BadParam);
+    }
+    if size_is_too_large {
+        return Checked::Refused(Ending::TooLarge);
+    }
+    if invalid_op(m, n, storage, c, a, b) {
+        return Checked::Refused(Ending::InvalidOp);
+    }
+    let cone_is_bad = cone::is_bad_cone(words, m);
+    let number_is_not_finite = not_finite(c, a, b);
+    if cone_is_bad {
+        return Checked::Refused(Ending::BadCone);
+    }
+    if number_is_not_finite {
+        return Checked::Refused(Ending::NotFinite);
+    }
+    if work_shortage(m, n, words, work, cone_work) {
+        return Checked::Refused(Ending::WorkShortage);
+    }
+    Checked::Accepted
+}
+
+fn is_finite(x: f64) -> bool
+    ensures { λ r. ⌜ r ≡ isFinite x ⌝ }
+{
+    let infinity = 1.0 / 0.0;
+    if x < infinity { -infinity < x } else { false }
+}
+
+fn bad_param(par: SolverParam) -> bool
+    ensures { λ r. ⌜ r ≡ badParam par ⌝ }
+{
+    if !is_finite(par.eps_acc) {
+        return true;
+    }
+    if !is_finite(par.eps_inf) {
+        return true;
+    }
+    if !is_finite(par.eps_zero) {
+        return true;
+    }
+    if par.eps_zero < 0.0 {
+        return true;
+    }
+    if par.max_iter > MOST_STEPS {
+        return true;
+    }
+    if par.sweep_limit < 1 {
+        return true;
+    }
+    par.sweep_limit > SWEEPS
+}
+
+fn too_large(m: usize, n: usize, words: &[u16]) -> bool
+    ensures { λ r. ⌜ r ≡ largeSizes m n (now (words .entry)) ⌝ }
+{
+    if n > LIMIT {
+        return true;
+    }
+    if m > LIMIT {
+        return true;
+    }
+    words.len() > WORDS
+}
+
+fn invalid_op(m: usize, n: usize, storage: Storage, c: &[f64], a: &[f64], b: &[f64]) -> bool
+    requires { ⌜ (m ≤ limit) × (n ≤ limit) ⌝ }
+    ensures { λ r. ⌜ r ≡ wrongLengths m n storage (now (c .entry)) (now (a .entry)) (now (b .entry)) ⌝ }
+{
+    if c.len() != n {
+        return true;
+    }
+    if b.len() != m {
+        return true;
+    }
+    match storage {
+        Storage::Dense => a.len() != m * n,
+        Storage::Packed => {
+            if m != n {
+                return true;
+            }
+            a.len() != m * (m + 1) / 2
+        }
+    }
+}
+
+fn not_finite(c: &[f64], a: &[f64], b: &[f64]) -> bool
+    ensures { λ r. ⌜ r ≡ someInfinite (now (c .entry)) (now (a .entry)) (now (b .entry)) ⌝ }
+{
+    if !all_finite(c) {
+        return true;
+    }
+    if !all_finite(a) {
+        return true;
+    }
+    !all_finite(b)
+}
+
+fn all_finite(v: &[f64]) -> bool
+    ensures { λ r. ⌜ r ≡ allFinite (now (v .entry)) ⌝ }
+{
+    for i in 0..v.len() {
+        if !is_finite(v[i]) {
+            return false;
+        }
+    }
+    true
+}
+
+fn work_shortage(m: usize, n: usize, words: &[u16], work: usize, cone_work: usize) -> bool
+    requires { ⌜ (m ≤ limit) × (n ≤ limit) ⌝ }
+    ensures { λ r. ⌜ r ≡ shortBuffers m n (now (words .entry)) work «cone_work» ⌝ }
+{
+    if work < 6 * n + 10 * m + 6 {
+        return true;
+    }
+    cone_work < cone::cone_work_len(words)
+}
+
+// An eps_zero of -0 is read as +0.
+pub fn read_eps(par: SolverParam) -> SolverParam
+    ensures { λ r. ⌜ r ≡ asRead par ⌝ }
+{
+    if par.eps_zero == 0.0 {
+        return SolverParam {
+            max_iter: par.max_iter,
+            eps_acc: par.eps_acc,
+            eps_inf: par.eps_inf,
+            eps_zero: 0.0,
+            sweep_limit: par.sweep_limit,
+        };
+    }
+    par
+}

@@ -30,7 +30,7 @@ pub struct Inf {
     pub infeas: f64,
 }
 
-pub fn criteria_conv(
+pub(crate) fn criteria_conv(
     m: usize,
     n: usize,
     t: MatType,
@@ -152,7 +152,7 @@ fn objectives(
     Products { cx, by }
 }
 
-pub fn criteria_inf(
+pub(crate) fn criteria_inf(
     m: usize,
     n: usize,
     t: MatType,

@@ -15,14 +15,14 @@ ghost use Rattle.rules.specs.Step.{part, opK, transOpK};
 ghost use Rattle.solver.specs.Fitting.{embedOf, Fits, LikeX, LikeY, Sized};
 
 // A matrix of one column.
-pub fn column(rows: usize) -> MatType
+pub(crate) fn column(rows: usize) -> MatType
     ensures { λ r. ⌜ r ≡ rules.column rows ⌝ }
 {
     MatType::General(Rows(rows), Cols(1))
 }
 
 // y becomes alpha * K * x + beta * y.
-pub fn op(
+pub(crate) fn op(
     m: usize,
     n: usize,
     t: MatType,
@@ -108,7 +108,7 @@ fn op_1(m: usize, n: usize, c: &[f64], b: &[f64], alpha: f64, x: &[f64], beta: f
 }
 
 // x becomes alpha * K transposed * y + beta * x.
-pub fn trans_op(
+pub(crate) fn trans_op(
     m: usize,
     n: usize,
     t: MatType,

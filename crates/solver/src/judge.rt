@@ -15,7 +15,7 @@ ghost use Rattle.solver.specs.Verdict.{normsOf};
 ghost use Rattle.verdict.specs.Verdict.{asVerdict};
 
 // The criteria of a step whose cones did not fail, and what they say.
-pub fn judge(
+pub(crate) fn judge(
     par: SolverParam,
     m: usize,
     n: usize,

@@ -8,7 +8,7 @@ ghost use Rattle.solver.specs.Fitting.{LikeX};
 ghost use Rattle.solver.specs.Solution.{finishedX, copiedTo};
 
 // x and y over tau, where the ending asks for it.
-pub fn finish(m: usize, n: usize, by_tau: bool, x: &mut [f64])
+pub(crate) fn finish(m: usize, n: usize, by_tau: bool, x: &mut [f64])
     requires { ⌜ LikeX m n (now x) ⌝ }
     ensures { λ _. ⌜ now (x .exit) ≡ finishedX m n «by_tau» (now (x .entry)) ⌝ }
 {
@@ -22,7 +22,7 @@ pub fn finish(m: usize, n: usize, by_tau: bool, x: &mut [f64])
 }
 
 // The six vectors of a run, one after another at the front of work.
-pub fn lay_out(
+pub(crate) fn lay_out(
     x: &[f64],
     y: &[f64],
     dp_tau: &[f64],
@@ -56,7 +56,7 @@ fn copy_to(v: &[f64], start: usize, work: &mut [f64])
 }
 
 // Every place becomes +0.
-pub fn clear(v: &mut [f64])
+pub(crate) fn clear(v: &mut [f64])
     ensures { λ _. ⌜ now (v .exit) ≡ zeros (length (now (v .entry))) ⌝ }
 {
     for k in 0..v.len() {

@@ -18,7 +18,7 @@ ghost use Rattle.solver.specs.Solve.{Prepared, SettledBy};
 ghost use Rattle.solver.specs.Verdict.{normsOf};
 
 // The norms, the first x and y, and the two diagonals.
-pub fn prepare_all(
+pub(crate) fn prepare_all(
     par: SolverParam,
     m: usize,
     n: usize,
@@ -48,7 +48,7 @@ pub fn prepare_all(
 
 // The run's vectors come into work, with x and y over tau where the ending asks for it; after a cone's
 // failure work and cone work are cleared.
-pub fn settle(
+pub(crate) fn settle(
     m: usize,
     n: usize,
     ending: Ending,

@@ -22,7 +22,7 @@ ghost use Rattle.solver.specs.Fitting.{embedOf, Fits, LikeX, LikeY, Read
 ghost use Rattle.solver.specs.Preparing.{columnSums, rowSums, rowsOf, groupedParts, Grouping};
 
 // The norms of b, then c, worked out at the front of x.
-pub fn calc_norms(
+pub(crate) fn calc_norms(
     m: usize,
     n: usize,
     t: MatType,
@@ -76,7 +76,7 @@ fn fr_norm(t: &[f64]) -> f64
 }
 
 // x and y are multiplied by 0, and tau is set to 1.
-pub fn init_vecs(m: usize, n: usize, x: &mut [f64], y: &mut [f64])
+pub(crate) fn init_vecs(m: usize, n: usize, x: &mut [f64], y: &mut [f64])
     requires { ⌜ (m ≤ limit) × (n ≤ limit) ⌝ }
     requires { ⌜ LikeX m n (now x) ⌝ }
     ensures x_left { λ _. ⌜ now (x .exit) ≡ set (scaled +0 (now (x .entry))) (n + m + m) one ⌝ }
@@ -99,7 +99,7 @@ fn diagonal(eps: f64, v: &mut [f64])
 
 // The two diagonals: 1 over the larger of each absolute sum and eps_zero, grouped for the two cone
 // parts of the first.
-pub fn calc_precond(
+pub(crate) fn calc_precond(
     par: SolverParam,
     m: usize,
     n: usize,

@@ -22,7 +22,7 @@ pub struct Turned {
 }
 
 // The steps from the first on.
-pub fn iterate(
+pub(crate) fn iterate(
     par: SolverParam,
     m: usize,
     n: usize,

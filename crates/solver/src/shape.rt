@@ -13,7 +13,7 @@ pub struct Norms {
 }
 
 // The matrix's kind with its sizes.
-pub fn matrix_of(storage: Storage, m: usize, n: usize) -> MatType
+pub(crate) fn matrix_of(storage: Storage, m: usize, n: usize) -> MatType
     ensures { λ r. ⌜ r ≡ rules.matrixOf storage m n ⌝ }
 {
     match storage {

@@ -9,7 +9,7 @@ ghost use Rattle.rules.specs.Problem.{problemOf};
 ghost use Rattle.solver.specs.Solve.{Lent, AtZero, RanIn};
 
 // The whole run, with its six vectors at zero.
-pub fn run_in(
+pub(crate) fn run_in(
     par: SolverParam,
     m: usize,
     n: usize,

@@ -18,7 +18,7 @@ ghost use Rattle.solver.specs.Update.{XMoved, YMoved, ConesReady, projec
 
 // What the cone makes of a step: the rotations, or the block that failed with the rotations up to
 // there. The sizes always fit here.
-pub fn update_vecs(
+pub(crate) fn update_vecs(
     par: SolverParam,
     m: usize,
     n: usize,

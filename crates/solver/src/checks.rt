@@ -42,7 +42,7 @@ pub fn check(
     if invalid_op(m, n, storage, c, a, b) {
         return Checked::Refused(Ending::InvalidOp);
     }
-    if cone::is_bad_cone(words, m) {
+    if words::is_bad_cone(words, m) {
         return Checked::Refused(Ending::BadCone);
     }
     if not_finite(c, a, b) {
@@ -148,5 +148,5 @@ fn work_shortage(m: usize, n: usize, words: &[u16], work: usize, cone_work: usiz
     if work < 6 * n + 10 * m + 6 {
         return true;
     }
-    cone_work < cone::cone_work_len(words)
+    cone_work < words::cone_work_len(words)
 }

@@ -11,6 +11,7 @@ use Prim.Native.Nat.{max}
 use lib.ListN.{drop}
 use Rattle.rules.proofs.ConeProduct.{work-block, work-end}
 use mathlib.Core.Logic.{⊎-elim}
+use Rattle.words.proofs.Sayable.{sayable-work}
 use Rattle.words.proofs.cone_work_len.Statement.{statement}
 use Rattle.words.proofs.cone_work_len.Tie as tie
 
@@ -36,7 +37,7 @@ enum-known-block : tie.Need-enum-known-block Inv-loop μ-loop
 enum-known-block c = search needs
 
 block-work-requires : tie.Need-block-work-requires Inv-loop μ-loop
-block-work-requires c κs = word-most _ _ (sym (c .before .before .before .read-word .ensures) ∙ c .before .block .given .1)
+block-work-requires c κs = search needs
 
 enum-told : tie.Need-enum-told Inv-loop μ-loop
 enum-told c = search needs
@@ -53,9 +54,9 @@ loop-again c =
     let l = r .before .before .before .loop in
     let words = r .before .before .before .before .before .args .words .now in (
       ⊎-elim
-          (λ w. omega (arith, w .3 .ensures, work-block words (l .i) (search needs) _ (sym (r .read-word .ensures) ∙ w .1 .given .1)))
+          (λ w. let e = sym (r .read-word .ensures) ∙ w .1 .given .1 in omega (arith, w .3 .ensures ∙ sayable-work _ (word-most _ _ e), work-block words (l .i) (search needs) _ e))
           (⊎-elim
-          (λ w. omega (arith, w .3 .ensures, work-block words (l .i) (search needs) _ (sym (r .read-word .ensures) ∙ w .1 .given .1)))
+          (λ w. let e = sym (r .read-word .ensures) ∙ w .1 .given .1 in omega (arith, w .3 .ensures ∙ sayable-work _ (word-most _ _ e), work-block words (l .i) (search needs) _ e))
           (λ w. omega (arith, ap coneWork (blocks-bad words (l .i) (search needs) (sym (r .read-word .ensures) ∙ w .1 .given .1)))))
           (c .match .came),
       search needs,

@@ -5,8 +5,9 @@ use Prim.Native.Nat.{_-_, _≤_}
 use mathlib.Core.Path.{_≡_, sym, _∙_}
 use lib.ListN.{length}
 use Rattle.rules.proofs.Blocks.{word-most, bad-word, bad-long, bad-more, bad-end}
-use Rattle.rules.specs.Blocks.{isBadCone}
+use Rattle.rules.specs.Blocks.{isBadCone, places}
 use lib.ListN.{drop}
+use Rattle.words.proofs.Sayable.{sayable-places}
 use Rattle.words.proofs.is_bad_cone.Statement.{statement}
 use Rattle.words.proofs.is_bad_cone.Tie as tie
 
@@ -40,14 +41,19 @@ returns c =
 enum-known-block : tie.Need-enum-known-block Inv-loop μ-loop
 enum-known-block c = search needs
 
+-- at a block: its word says no more places than a word can
+size-is : (c : tie.After-places-of Inv-loop μ-loop) → c .places-of .result ≡ places (c .before .before .block .given .0 .0)
+size-is c =
+    c .places-of .ensures ∙ sayable-places _ (word-most _ _ (sym (c .before .before .before .before .read-word .ensures) ∙ c .before .before .block .given .1))
+
 places-of-requires : tie.Need-places-of-requires Inv-loop μ-loop
-places-of-requires c κs = word-most _ _ (sym (c .before .before .before .read-word .ensures) ∙ c .before .block .given .1)
+places-of-requires c κs = search needs
 
 returns-2 : tie.Need-returns-2 Inv-loop μ-loop
 returns-2 c =
     let r = c .before .before .before .before .before in
     let l = r .before .before .before .loop in
-    sym (bad-long _ (l .i) (search needs) (l .left) _ (sym (r .read-word .ensures) ∙ c .before .before .before .block .given .1) (omega (arith, c .before .places-of .ensures))) ∙ l .inv .0
+    sym (bad-long _ (l .i) (search needs) (l .left) _ (sym (r .read-word .ensures) ∙ c .before .before .before .block .given .1) (omega (arith, size-is (c .before)))) ∙ l .inv .0
 
 add-i : tie.Need-add-i Inv-loop μ-loop
 add-i c = search needs
@@ -59,7 +65,7 @@ loop-again : tie.Need-loop-again Inv-loop μ-loop
 loop-again c =
     let r = c .before .before .before .before .before in
     let l = r .before .before .before .loop in
-    (rw (c .before .places-of .ensures) (sym (bad-more _ (l .i) (search needs) (l .left) _ (sym (r .read-word .ensures) ∙ c .before .before .before .block .given .1) (omega (arith, c .before .places-of .ensures))) ∙ l .inv .0), search needs, search needs)
+    (rw (size-is (c .before)) (sym (bad-more _ (l .i) (search needs) (l .left) _ (sym (r .read-word .ensures) ∙ c .before .before .before .block .given .1) (omega (arith, size-is (c .before)))) ∙ l .inv .0), search needs, search needs)
 
 returns-3 : tie.Need-returns-3 Inv-loop μ-loop
 returns-3 c = sym (bad-end _ (c .before .loop .i) (c .before .loop .left) (search needs)) ∙ c .before .loop .inv .0

@@ -8,6 +8,7 @@ use Rattle.rules.specs.declared.Word.the-variants.{Block}
 use Rattle.rules.specs.Blocks.{readWord, places}
 use Rattle.rules.proofs.Blocks.{word-most}
 use Rattle.rules.proofs.ConeProduct.{Grouping, grouping-start, grouping-more, grouping-end, walk-no-bad, walk-places}
+use Rattle.words.proofs.Sayable.{sayable-places}
 use Rattle.product.proofs.group_all.Statement.{statement}
 use Rattle.product.proofs.group_all.Tie as tie
 
@@ -50,16 +51,19 @@ is-block c = sym (c .before .before .before .before .read-word .ensures) ∙ c .
 is-taken : (c : tie.After-places-of Inv-loop μ-loop) → c .before .before .before .before .before .before .before .loop .i < length (c .before .before .before .before .before .before .before .before .before .before .args .words .now)
 is-taken c = search needs
 
+size-is : (c : tie.After-places-of Inv-loop μ-loop) → c .places-of .result ≡ places (c .before .before .block .given .0 .0)
+size-is c = c .places-of .ensures ∙ sayable-places _ (word-most _ _ (is-block c))
+
 is-long : (c : tie.After-places-of Inv-loop μ-loop) → c .before .before .before .before .before .before .before .loop .start + c .places-of .result - c .before .before .before .before .before .before .before .loop .start ≡ places (c .before .before .block .given .0 .0)
-is-long c = omega (arith, c .places-of .ensures)
+is-long c = omega (arith, size-is c)
 
 is-end : (c : tie.After-places-of Inv-loop μ-loop) → c .before .before .before .before .before .before .before .loop .start + c .places-of .result ≤ length (c .before .before .before .before .before .before .before .loop .xs)
 is-end c =
     let g = c .before .before .before .before .before .before .before .loop .inv .0 in
-    omega (arith, c .places-of .ensures, walk-places (g .walk) (is-taken c) _ (is-block c), g .same)
+    omega (arith, size-is c, walk-places (g .walk) (is-taken c) _ (is-block c), g .same)
 
 places-of-requires : tie.Need-places-of-requires Inv-loop μ-loop
-places-of-requires c κs = word-most _ _ (sym (c .before .before .before .read-word .ensures) ∙ c .before .block .given .1)
+places-of-requires c κs = search needs
 
 add-end : tie.Need-add-end Inv-loop μ-loop
 add-end c = omega (arith, is-end c)
@@ -89,7 +93,7 @@ loop-again : tie.Need-loop-again Inv-loop μ-loop
 loop-again c =
     let p = c .before .before .before .before in
     let a = p .before .before .before .before .before .before .before .loop .start in
-    (grouping-more (p .before .before .before .before .before .before .before .loop .inv .0) (is-taken p) _ (is-block p) _ _ (is-long p) (ap (λ (n : ℕ). a + n) (p .places-of .ensures)) _ (c .before .before .group-block .kept .1 .0) (c .before .before .group-block .ensures), search needs, search needs)
+    (grouping-more (p .before .before .before .before .before .before .before .loop .inv .0) (is-taken p) _ (is-block p) _ _ (is-long p) (ap (λ (n : ℕ). a + n) (size-is p)) _ (c .before .before .group-block .kept .1 .0) (c .before .before .group-block .ensures), search needs, search needs)
 
 same-length-2 : tie.Need-same-length-2 Inv-loop μ-loop
 same-length-2 c = search needs

@@ -8,6 +8,7 @@ use Rattle.rules.proofs.Blocks.{word-most}
 use Rattle.rules.proofs.ConeProduct.{Projecting, projecting-start, projecting-end, projecting-more, projecting-failed, projecting-some, projecting-counts, projecting-counts-failed, walk-no-bad, walk-places}
 use Rattle.rules.specs.declared.Word.the-variants.{Block}
 use Rattle.rules.specs.Blocks.{readWord, places}
+use Rattle.words.proofs.Sayable.{sayable-places}
 use Rattle.product.proofs.proj_all.Statement.{statement}
 use Rattle.product.proofs.proj_all.Tie as tie
 
@@ -53,16 +54,19 @@ is-block c = sym (c .before .before .before .before .read-word .ensures) ∙ c .
 is-taken : (c : tie.After-places-of Inv-loop μ-loop) → c .before .before .before .before .before .before .before .loop .i < length (c .before .before .before .before .before .before .before .before .before .before .before .args .words .now)
 is-taken c = search needs
 
+size-is : (c : tie.After-places-of Inv-loop μ-loop) → c .places-of .result ≡ places (c .before .before .block .given .0 .0)
+size-is c = c .places-of .ensures ∙ sayable-places _ (word-most _ _ (is-block c))
+
 is-long : (c : tie.After-places-of Inv-loop μ-loop) → c .before .before .before .before .before .before .before .loop .start + c .places-of .result - c .before .before .before .before .before .before .before .loop .start ≡ places (c .before .before .block .given .0 .0)
-is-long c = omega (arith, c .places-of .ensures)
+is-long c = omega (arith, size-is c)
 
 is-end : (c : tie.After-places-of Inv-loop μ-loop) → c .before .before .before .before .before .before .before .loop .start + c .places-of .result ≤ length (c .before .before .before .before .before .before .before .loop .x)
 is-end c =
     let g = c .before .before .before .before .before .before .before .loop .inv .0 in
-    omega (arith, c .places-of .ensures, walk-places (g .walk) (is-taken c) _ (is-block c), g .same)
+    omega (arith, size-is c, walk-places (g .walk) (is-taken c) _ (is-block c), g .same)
 
 places-of-requires : tie.Need-places-of-requires Inv-loop μ-loop
-places-of-requires c κs = word-most _ _ (sym (c .before .before .before .read-word .ensures) ∙ c .before .block .given .1)
+places-of-requires c κs = search needs
 
 add-end : tie.Need-add-end Inv-loop μ-loop
 add-end c = omega (arith, is-end c)

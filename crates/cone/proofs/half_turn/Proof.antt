@@ -22,10 +22,10 @@ same-length : tie.Need-same-length
 same-length c = search needs
 
 returns : tie.Need-returns
-returns c = rw root-two-is (turn-more _ (c .before .before .if1 .taken))
+returns c = rw root-two-is (turn-more _ (omega (arith, c .before .before .if1 .taken)))
 
 returns-2 : tie.Need-returns-2
-returns-2 c = turn-none _ (c .if1 .left)
+returns-2 c = turn-none _ (omega (arith, c .if1 .left))
 
 pub half-turn-spec : {M : Type 1} → statement M
 half-turn-spec =

@@ -1,5 +1,6 @@
 -- `cone::proj_rotsoc` meets its contract.
 use borrow.Author.Needs.{needs}
+use native.Mathlib.Omega.{arith}
 use Rattle.rules.proofs.Projections.{rotated-one, rotated-more}
 use Rattle.cone.proofs.proj_rotsoc.Statement.{statement}
 use Rattle.cone.proofs.proj_rotsoc.Tie as tie
@@ -26,7 +27,7 @@ same-length : tie.Need-same-length
 same-length c = search needs
 
 returns : tie.Need-returns
-returns c = rw (c .larger .ensures) (rotated-one _ (c .before .before .if1 .taken))
+returns c = rw (c .larger .ensures) (rotated-one _ (omega (arith, c .before .before .if1 .taken)))
 
 same-length-2 : tie.Need-same-length-2
 same-length-2 c = search needs

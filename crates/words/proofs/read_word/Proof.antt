@@ -16,14 +16,16 @@ cast-size c = search needs
 order-of-requires : tie.Need-order-of-requires
 order-of-requires c κs = search needs
 
+order-small : (c : tie.After-order-of) → c .order-of .result ≤ 127
+order-small c = rw (c .order-of .ensures) (order-most _)
+
 add-if1 : tie.Need-add-if1
-add-if1 c = omega (arith, c .order-of .ensures, order-most (c .before .before .args .word % 8192))
+add-if1 c = omega (arith, order-small c)
 
 mul-if1 : tie.Need-mul-if1
 mul-if1 c =
-    let h : c .order-of .result ≤ 127 = omega (arith, c .order-of .ensures, order-most (c .before .before .args .word % 8192)) in
-    let h' : c .order-of .result + 1 ≤ 128 = omega arith in
-    omega (arith, mul-le-mul h h')
+    let h : c .order-of .result + 1 ≤ 128 = omega (arith, order-small c) in
+    omega (arith, mul-le-mul (order-small c) h)
 
 returns : tie.Need-returns
 unfolding readWord readKind

@@ -44,7 +44,7 @@ pub fn check(
     if invalid_op(m, n, storage, c, a, b) {
         return Checked::Refused(Ending::InvalidOp);
     }
-    let cone_is_bad = cone::is_bad_cone(words, m);
+    let cone_is_bad = words::is_bad_cone(words, m);
     let number_is_not_finite = not_finite(c, a, b);
     if cone_is_bad {
         return Checked::Refused(Ending::BadCone);
@@ -152,7 +152,7 @@ fn work_shortage(m: usize, n: usize, words: &[u16], work: usize, cone_work: usiz
     if work < 6 * n + 10 * m + 6 {
         return true;
     }
-    cone_work < cone::cone_work_len(words)
+    cone_work < words::cone_work_len(words)
 }
 
 // An eps_zero of -0 is read as +0.

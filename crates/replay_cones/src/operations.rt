@@ -146,7 +146,7 @@ fn project_and_not(
     if x.len() <= places {
         return Product::No;
     }
-    let answer = cone::product_proj(par, dual, list, &mut x[0..places], work);
+    let answer = product::product_proj(par, dual, list, &mut x[0..places], work);
     if is_turned_down(par, dual, list, x, places, work, used) {
         answer
     } else {
@@ -195,14 +195,14 @@ fn is_turned_down(
         return false;
     }
     let longer = places + 1;
-    if !is_no(cone::product_proj(par, dual, list, &mut x[0..longer], work)) {
+    if !is_no(product::product_proj(par, dual, list, &mut x[0..longer], work)) {
         return false;
     }
     if used == 0 {
         return true;
     }
     let shorter = used - 1;
-    is_no(cone::product_proj(par, dual, list, &mut x[0..places], &mut work[0..shorter]))
+    is_no(product::product_proj(par, dual, list, &mut x[0..places], &mut work[0..shorter]))
 }
 
 fn is_no(answer: Product) -> bool {
@@ -242,9 +242,9 @@ fn groups_and_not(list: &[u16], xs: &mut [f64], places: usize) -> bool {
     if xs.len() <= places {
         return false;
     }
-    if !cone::product_group(list, &mut xs[0..places]) {
+    if !product::product_group(list, &mut xs[0..places]) {
         return false;
     }
     let longer = places + 1;
-    !cone::product_group(list, &mut xs[0..longer])
+    !product::product_group(list, &mut xs[0..longer])
 }

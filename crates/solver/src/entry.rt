@@ -86,7 +86,7 @@ fn accepted(
 {
     let nx = n + m + m + 1;
     let ny = n + m + 1;
-    let needed = cone::cone_work_len(words);
+    let needed = words::cone_work_len(words);
     let mut x = [0.0; LONG_X];
     let mut y = [0.0; LONG_Y];
     let mut dp_tau = [0.0; LONG_X];

@@ -132,8 +132,8 @@ fn group_parts(m: usize, n: usize, words: &[u16], d: &mut [f64])
 {
     let nm = n + m;
     let nmm = nm + m;
-    cone::product_group(words, &mut d[n..nm]);
-    cone::product_group(words, &mut d[nm..nmm]);
+    product::product_group(words, &mut d[n..nm]);
+    product::product_group(words, &mut d[nm..nmm]);
 }
 
 // The absolute sums of the operator's columns, and of its rows.

@@ -102,10 +102,10 @@ fn project(
 {
     let nm = n + m;
     let nmm = nm + m;
-    let dual = cone::product_proj(par, true, words, &mut x[n..nm], cone_work);
+    let dual = product::product_proj(par, true, words, &mut x[n..nm], cone_work);
     match dual {
         Product::Done(q) => {
-            let primal = cone::product_proj(par, false, words, &mut x[nm..nmm], cone_work);
+            let primal = product::product_proj(par, false, words, &mut x[nm..nmm], cone_work);
             match primal {
                 Product::Done(r) => Product::Done(q + r),
                 Product::Failed(block, r) => Product::Failed(block, q + r),

@@ -1,0 +1,81 @@
+-- `words::places_of` meets its contract.
+use borrow.Author.Needs.{needs}
+use native.Mathlib.Omega.{arith}
+use Prim.Native.Nat.{_≤_}
+use mathlib.Core.Path.{_≡_, sym, _∙_}
+use mathlib.Core.Bool.{false}
+use lib.Dec.{leb}
+use borrow.Author.Tests.{not-true, not-false, leb-true}
+use Rattle.rules.specs.Blocks.{places}
+use Rattle.rules.proofs.Blocks.{twice-triangle}
+use Rattle.words.specs.Sayable.{sayablePlaces}
+use Rattle.words.proofs.Sayable.{sayable-places}
+use Rattle.words.proofs.places_of.Statement.{statement}
+use Rattle.words.proofs.places_of.Tie as tie
+
+is-sayable-requires : tie.Need-is-sayable-requires
+is-sayable-requires c κs = search needs
+
+returns : tie.Need-returns
+unfolding sayablePlaces
+returns c =
+    let s : leb (places (c .before .before .args .cone)) 8191 ≡ false = sym (c .before .is-sayable .ensures) ∙ not-true _ (c .if1 .taken) in
+    rw s
+
+most : (c : tie.Else1) → places (c .before .before .args .cone) ≤ 8191
+most c = leb-true _ _ (sym (c .before .is-sayable .ensures) ∙ not-false _ (c .if1 .left))
+
+enum-known-cone : tie.Need-enum-known-cone
+enum-known-cone c = search needs
+
+enum-known-cone-2 : tie.Need-enum-known-cone-2
+enum-known-cone-2 c = search needs
+
+enum-known-cone-3 : tie.Need-enum-known-cone-3
+enum-known-cone-3 c = search needs
+
+enum-known-cone-4 : tie.Need-enum-known-cone-4
+enum-known-cone-4 c = search needs
+
+enum-known-cone-5 : tie.Need-enum-known-cone-5
+enum-known-cone-5 c = search needs
+
+add-result : tie.Need-add-result
+add-result c = omega (arith, twice-triangle (c .before .cone5 .given .0 .0), rw (c .before .cone5 .given .1) at (most (c .before .before .before)))
+
+mul-result : tie.Need-mul-result
+mul-result c = omega (arith, rw (c .before .cone5 .given .1) at (most (c .before .before .before)))
+
+returns-2 : tie.Need-returns-2
+returns-2 c = rw (sayable-places _ (most (c .before .before .before)), c .before .cone .given .1)
+
+returns-3 : tie.Need-returns-3
+returns-3 c = rw (sayable-places _ (most (c .before .before .before)), c .before .cone2 .given .1)
+
+returns-4 : tie.Need-returns-4
+returns-4 c = rw (sayable-places _ (most (c .before .before .before)), c .before .cone3 .given .1)
+
+returns-5 : tie.Need-returns-5
+returns-5 c = rw (sayable-places _ (most (c .before .before .before)), c .before .cone4 .given .1)
+
+returns-6 : tie.Need-returns-6
+returns-6 c = rw (sayable-places _ (most (c .before .before .before)), c .before .cone5 .given .1)
+
+pub places-of-spec : {M : Type 1} → statement M
+places-of-spec =
+    tie.close
+    (tie.spec
+    is-sayable-requires
+    returns
+    enum-known-cone
+    enum-known-cone-2
+    enum-known-cone-3
+    enum-known-cone-4
+    enum-known-cone-5
+    add-result
+    mul-result
+    returns-2
+    returns-3
+    returns-4
+    returns-5
+    returns-6)

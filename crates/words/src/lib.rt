@@ -1,0 +1,132 @@
+// The reader of the cone list: the only place that knows words. Everything else is over the blocks.
+use rules::Cone;
+use rules::Word;
+ghost use mathlib.Core.Path.{_≡_};
+ghost use Rattle.rules.specs.Blocks.{orderOf, readWord, blocksOf, isBadCone};
+ghost use Rattle.rules.specs.Product.{coneWork};
+ghost use Rattle.words.specs.Sayable.{isSayable, sayablePlaces, sayableWork};
+
+// The largest size that a word can say, in 13 bits.
+const SIZE: usize = 8191;
+
+// The largest order whose triangle has at most that many places, of those that a word can say.
+fn order_of(size: usize) -> usize
+    ensures { λ r. ⌜ r ≡ orderOf size ⌝ }
+{
+    let mut order: usize = 127;
+    while 0 < order {
+        if order * (order + 1) / 2 <= size {
+            return order;
+        }
+        order = order - 1;
+    }
+    0
+}
+
+// What a cone word says: 3 bits of kind, then 13 bits of size.
+pub fn read_word(word: u16) -> Word
+    ensures { λ r. ⌜ r ≡ readWord word ⌝ }
+{
+    let size = (word % 8192) as usize;
+    match word / 8192 {
+        0 => Word::Block(Cone::Zero(size)),
+        1 => Word::Block(Cone::RPos(size)),
+        2 => Word::Block(Cone::SOC(size)),
+        3 => Word::Block(Cone::RotSOC(size)),
+        4 => {
+            let order = order_of(size);
+            if order * (order + 1) / 2 == size {
+                Word::Block(Cone::PSD(order))
+            } else {
+                Word::Bad
+            }
+        }
+        _ => Word::Bad,
+    }
+}
+
+// Whether a word can say a block.
+fn is_sayable(cone: Cone) -> bool
+    ensures { λ r. ⌜ r ≡ isSayable cone ⌝ }
+{
+    match cone {
+        Cone::Zero(size) => size <= SIZE,
+        Cone::RPos(size) => size <= SIZE,
+        Cone::SOC(size) => size <= SIZE,
+        Cone::RotSOC(size) => size <= SIZE,
+        Cone::PSD(order) => {
+            if SIZE < order {
+                return false;
+            }
+            order * (order + 1) / 2 <= SIZE
+        }
+    }
+}
+
+// How many places a block has: none, if no word can say it.
+pub fn places_of(cone: Cone) -> usize
+    ensures { λ r. ⌜ r ≡ sayablePlaces cone ⌝ }
+{
+    if !is_sayable(cone) {
+        return 0;
+    }
+    match cone {
+        Cone::Zero(size) => size,
+        Cone::RPos(size) => size,
+        Cone::SOC(size) => size,
+        Cone::RotSOC(size) => size,
+        Cone::PSD(order) => order * (order + 1) / 2,
+    }
+}
+
+// How much cone work a block needs: none, if no word can say it.
+pub fn block_work(cone: Cone) -> usize
+    ensures { λ r. ⌜ r ≡ sayableWork cone ⌝ }
+{
+    if !is_sayable(cone) {
+        return 0;
+    }
+    match cone {
+        Cone::Zero(_) => 0,
+        Cone::RPos(_) => 0,
+        Cone::SOC(_) => 0,
+        Cone::RotSOC(_) => 0,
+        Cone::PSD(order) => order + order * order,
+    }
+}
+
+// Whether a list has a word that is bad, or blocks that don't add up to that many places.
+pub fn is_bad_cone(words: &[u16], places: usize) -> bool
+    ensures { λ r. ⌜ r ≡ isBadCone (now (words .entry)) places ⌝ }
+{
+    let mut left = places;
+    for i in 0..words.len() {
+        match read_word(words[i]) {
+            Word::Bad => return true,
+            Word::Block(block) => {
+                let size = places_of(block);
+                if left < size {
+                    return true;
+                }
+                left = left - size;
+            }
+        }
+    }
+    left != 0
+}
+
+// How much cone work the blocks of a list need: as much as the one that needs most.
+pub fn cone_work_len(words: &[u16]) -> usize
+    ensures { λ r. ⌜ r ≡ coneWork (blocksOf (now (words .entry))) ⌝ }
+{
+    let mut most: usize = 0;
+    for i in 0..words.len() {
+        if let Word::Block(block) = read_word(words[i]) {
+            let len = block_work(block);
+            if most < len {
+                most = len;
+            }
+        }
+    }
+    most
+}

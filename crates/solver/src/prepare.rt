@@ -82,10 +82,19 @@ pub(crate) fn init_vecs(m: usize, n: usize, x: &mut [f64], y: &mut [f64])
     ensures x_left { λ _. ⌜ now (x .exit) ≡ set (scaled +0 (now (x .entry))) (n + m + m) one ⌝ }
     ensures y_left { λ _. ⌜ now (y .exit) ≡ scaled +0 (now (y .entry)) ⌝ }
 {
-    linalg::scale(0.0, x);
-    linalg::scale(0.0, y);
+    times_zero(x);
+    times_zero(y);
     let tau = n + m + m;
     x[tau] = 1.0;
+}
+
+// A number below 0 leaves -0.
+fn times_zero(v: &mut [f64])
+    ensures { λ _. ⌜ now (v .exit) ≡ scaled +0 (now (v .entry)) ⌝ }
+{
+    for i in 0..v.len() {
+        v[i] = 0.0 * v[i];
+    }
 }
 
 // Each number becomes 1 over the larger of it and eps.
@@ -153,7 +162,7 @@ fn abssum(
     ensures tau_left { λ _. ⌜ now (tau .exit) ≡ columnSums (embedOf m n t (now (c .entry)) (now (a .entry)) (now (b .entry))) (scaled +0 (now (tau .entry))) ⌝ }
     ensures sigma_left { λ _. ⌜ now (sigma .exit) ≡ rowSums (embedOf m n t (now (c .entry)) (now (a .entry)) (now (b .entry))) (scaled +0 (now (tau .entry))) ⌝ }
 {
-    linalg::scale(0.0, tau);
+    times_zero(tau);
     column_sums(m, n, t, c, a, b, tau);
     row_sums(m, n, tau, sigma);
 }

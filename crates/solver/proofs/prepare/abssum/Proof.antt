@@ -11,8 +11,8 @@ use borrow.Author.Needs.{needs}
 use Rattle.solver.proofs.prepare.abssum.Statement.{statement}
 use Rattle.solver.proofs.prepare.abssum.Tie as tie
 
-scale-requires : tie.Need-scale-requires
-scale-requires c κs = search needs
+times-zero-requires : tie.Need-times-zero-requires
+times-zero-requires c κs = search needs
 
 column-sums-requires : tie.Need-column-sums-requires
 column-sums-requires c κs = search needs
@@ -32,10 +32,10 @@ returns c =
     let g = start .args in
     let k = embedOf (g .m) (g .n) (g .t) (g .c .now) (g .a .now) (g .b .now) in
     let t-length : length (scaled +0 (g .tau .now)) ≡ lengthX (g .m) (g .n) = scaled-length +0 (g .tau .now) ∙ start .pre .1 .0 .is in
-    let columns = rw (c .before .before .before .before .before .before .before .before .before .before .before .scale .ensures) at (c .before .before .before .before .before .before .before .column-sums .ensures) in
+    let columns = rw (c .before .before .before .before .before .before .before .before .before .before .before .times-zero .ensures) at (c .before .before .before .before .before .before .before .column-sums .ensures) in
     let rows = rw columns at (c .before .before .row-sums .ensures) in
     (columns, rows ∙ rows-of-columns k (scaled +0 (g .tau .now)) t-length)
 
 pub abssum-spec : {M : Type 1} → statement M
 abssum-spec =
-    tie.close (tie.spec scale-requires column-sums-requires row-sums-requires same-length same-length-2 returns)
+    tie.close (tie.spec times-zero-requires column-sums-requires row-sums-requires same-length same-length-2 returns)

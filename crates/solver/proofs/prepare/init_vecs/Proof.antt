@@ -4,11 +4,11 @@ use borrow.Author.Needs.{needs}
 use Rattle.solver.proofs.prepare.init_vecs.Statement.{statement}
 use Rattle.solver.proofs.prepare.init_vecs.Tie as tie
 
-scale-requires : tie.Need-scale-requires
-scale-requires c κs = search needs
+times-zero-requires : tie.Need-times-zero-requires
+times-zero-requires c κs = search needs
 
-scale-requires-2 : tie.Need-scale-requires-2
-scale-requires-2 c κs = search needs
+times-zero-requires-2 : tie.Need-times-zero-requires-2
+times-zero-requires-2 c κs = search needs
 
 add-tau : tie.Need-add-tau
 add-tau c = search needs
@@ -30,8 +30,8 @@ same-length-2 c = search needs
 
 returns : tie.Need-returns
 unfolding one
-returns c = (rw (c .before .before .before .before .before .before .scale .ensures), c .before .before .scale2 .ensures)
+returns c = (rw (c .before .before .before .before .before .before .times-zero .ensures), c .before .before .times-zero2 .ensures)
 
 pub init-vecs-spec : {M : Type 1} → statement M
 init-vecs-spec =
-    tie.close (tie.spec scale-requires scale-requires-2 add-tau add-tau-2 mul-x slice-write-x same-length same-length-2 returns)
+    tie.close (tie.spec times-zero-requires times-zero-requires-2 add-tau add-tau-2 mul-x slice-write-x same-length same-length-2 returns)

@@ -1,0 +1,27 @@
+-- A record is its bytes, eight to a word.
+use Prim.Native.Nat.{ℕ, zero, suc, _+_, _*_, _/_}
+use mathlib.Core.Bool.{Bool, true, cond, _&&_}
+use mathlib.Core.List.{List, [], _∷_}
+use lib.Dec.{ltb, eqb}
+use lib.Ieee.{Float, binary64, ofBits, toBits}
+use lib.ListN.{length}
+use Rattle.patterns.specs.Words.{wordAt}
+
+-- a word of the record, 0 past its end
+unfoldable pub wordOf : List ℕ → ℕ → ℕ
+wordOf bytes at = cond (ltb at (length bytes / 8)) (wordAt bytes (at * 8)) 0
+
+unfoldable pub numberOf : List ℕ → ℕ → Float
+numberOf bytes at = ofBits binary64 (wordOf bytes at)
+
+-- a number stands there, bit for bit; every NaN is one pattern
+abbrev pub stands : List ℕ → ℕ → Float → Bool
+stands bytes at x = eqb (toBits binary64 x) (wordOf bytes at)
+
+unfoldable pub standFrom : List ℕ → ℕ → List Float → Bool
+standFrom bytes at [] = true
+standFrom bytes at (x ∷ xs) = stands bytes at x && standFrom bytes (suc at) xs
+
+unfoldable pub allHave : ℕ → List Float → Bool
+allHave pattern [] = true
+allHave pattern (x ∷ xs) = eqb (toBits binary64 x) pattern && allHave pattern xs

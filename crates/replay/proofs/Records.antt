@@ -2,18 +2,17 @@
 use Prim.Native.Nat.{ℕ, suc, _+_, _*_, _/_, _<_, _≤_}
 use native.Mathlib.Numerals.{add-one}
 use native.Mathlib.Omega.{arith}
-use mathlib.Core.Path.{_≡_, refl}
-use mathlib.Core.Bool.{true, _&&_}
+use mathlib.Core.Path.{_≡_}
+use mathlib.Core.Bool.{true, false, _&&_}
 use mathlib.Core.List.{List}
 use lib.Dec.{eqb}
 use lib.Ieee.{Float, nan, binary64, toBits}
-use lib.ListN.{length, getD, drop, drop-of-length-le}
+use lib.ListN.{length, take, drop, drop-of-length-le}
 use lib.Seq.{drop-cons}
-use borrow.Author.Tests.{lt-ltb, le-ltb}
+use borrow.Author.Tests.{lt-ltb, le-ltb, lt-leb, le-leb}
 use Rattle.rules.specs.Arithmetic.{at}
 use Rattle.patterns.specs.Words.{wordAt}
-use Rattle.replay.specs.Records.{wordOf, stands, standFrom, allHave}
-use Rattle.replay.specs.Tallies.{totalTo}
+use Rattle.replay.specs.Records.{wordOf, stands, standFrom, allHave, standBefore}
 
 pub word-there : (bytes : List ℕ) (i : ℕ) → i < length bytes / 8 → wordOf bytes i ≡ wordAt bytes (i * 8)
 unfolding wordOf
@@ -41,3 +40,16 @@ have-more pattern xs i h = rw (add-one i, drop-cons xs i nan h)
 pub have-end : (pattern : ℕ) (xs : List Float) (i : ℕ) → length xs ≤ i → allHave pattern (drop i xs) ≡ true
 unfolding allHave
 have-end pattern xs i h = rw (drop-of-length-le xs h)
+
+-- the first n numbers and the others
+pub before-short : (bytes : List ℕ) (from : ℕ) (xs : List Float) (n pattern : ℕ) → length xs < n → false ≡ standBefore bytes from xs n pattern
+unfolding standBefore
+before-short bytes from xs n pattern h = rw (lt-leb n (length xs) h)
+
+pub before-not : (bytes : List ℕ) (from : ℕ) (xs : List Float) (n pattern : ℕ) → n ≤ length xs → standFrom bytes from (take n xs) ≡ false → false ≡ standBefore bytes from xs n pattern
+unfolding standBefore
+before-not bytes from xs n pattern h e = rw (le-leb n (length xs) h, e)
+
+pub before-then : (bytes : List ℕ) (from : ℕ) (xs : List Float) (n pattern : ℕ) → n ≤ length xs → standFrom bytes from (take n xs) ≡ true → allHave pattern (drop n xs) ≡ standBefore bytes from xs n pattern
+unfolding standBefore
+before-then bytes from xs n pattern h e = rw (le-leb n (length xs) h, e)

@@ -2,9 +2,9 @@
 use Prim.Native.Nat.{ℕ, zero, suc, _+_, _*_, _/_}
 use mathlib.Core.Bool.{Bool, true, cond, _&&_}
 use mathlib.Core.List.{List, [], _∷_}
-use lib.Dec.{ltb, eqb}
+use lib.Dec.{leb, ltb, eqb}
 use lib.Ieee.{Float, binary64, ofBits, toBits}
-use lib.ListN.{length}
+use lib.ListN.{length, take, drop}
 use Rattle.patterns.specs.Words.{wordAt}
 
 -- a word of the record, 0 past its end
@@ -25,3 +25,7 @@ standFrom bytes at (x ∷ xs) = stands bytes at x && standFrom bytes (suc at) xs
 unfoldable pub allHave : ℕ → List Float → Bool
 allHave pattern [] = true
 allHave pattern (x ∷ xs) = eqb (toBits binary64 x) pattern && allHave pattern xs
+
+-- the first n numbers stand from a place on, and all after them have the pattern
+unfoldable pub standBefore : List ℕ → ℕ → List Float → ℕ → ℕ → Bool
+standBefore bytes at xs n pattern = leb n (length xs) && standFrom bytes at (take n xs) && allHave pattern (drop n xs)

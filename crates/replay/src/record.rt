@@ -6,7 +6,7 @@ ghost use lib.ListN.{length};
 ghost use lib.Ieee as Ieee;
 ghost use lib.Ieee.{binary64};
 ghost use Rattle.rules.specs.Arithmetic.{each};
-ghost use Rattle.replay.specs.Records.{wordOf, numberOf, stands, standFrom, allHave};
+ghost use Rattle.replay.specs.Records.{wordOf, numberOf, stands, standFrom, allHave, standBefore};
 
 // How many words the record has.
 pub fn words(record: &[u8]) -> usize
@@ -36,6 +36,13 @@ fn word_after(record: &[u8], at: usize, k: usize) -> u64
         }
     }
     0
+}
+
+// A word that is a size.
+pub fn size(record: &[u8], at: usize) -> usize
+    ensures { λ r. ⌜ r ≡ wordOf (now («record» .entry)) at ⌝ }
+{
+    word(record, at) as usize
 }
 
 pub fn number(record: &[u8], at: usize) -> f64
@@ -82,4 +89,18 @@ pub fn all_have(pattern: u64, numbers: &[f64]) -> bool
         }
     }
     true
+}
+
+// Whether the first n of these numbers stand in the record from a place on, and all after them have the
+// pattern.
+pub fn holds_before(record: &[u8], at: usize, numbers: &[f64], n: usize, pattern: u64) -> bool
+    ensures { λ r. ⌜ r ≡ standBefore (now («record» .entry)) at (now (numbers .entry)) n pattern ⌝ }
+{
+    if n > numbers.len() {
+        return false;
+    }
+    if !holds(record, at, &numbers[0..n]) {
+        return false;
+    }
+    all_have(pattern, &numbers[n..])
 }

@@ -1,9 +1,8 @@
 -- `replay::record::all_have` meets its contract.
 use borrow.Author.Needs.{needs}
-use native.Mathlib.Omega.{arith}
-use Prim.Native.Nat.{ℕ, _+_, _-_, _*_, _≤_, _<_}
-use mathlib.Core.Path.{_≡_, refl, sym, ap, _∙_}
-use lib.ListN.{length, getD, set, length-set}
+use Prim.Native.Nat.{_-_, _≤_}
+use mathlib.Core.Path.{_≡_, sym, _∙_}
+use lib.ListN.{length}
 use Rattle.replay.specs.Records.{allHave}
 use Rattle.replay.proofs.Records.{have-more, have-end}
 use lib.ListN.{drop}
@@ -14,9 +13,6 @@ use borrow.Author.Tests.{ne-eqb, eq-eqb}
 use Rattle.rules.specs.Arithmetic.{at}
 use Rattle.replay.proofs.record.all_have.Statement.{statement}
 use Rattle.replay.proofs.record.all_have.Tie as tie
-use Rattle.replay.proofs.record.all_have.Reads as reads
-use Rattle.replay.proofs.record.all_have.Lts as lts
-use Rattle.patterns.proofs.pattern_of.Reads as pattern-of-reads
 
 abbrev Inv-loop : tie.InvT-loop
 Inv-loop pattern numbers i₀ i-end i = (allHave pattern (drop i numbers) ≡ allHave pattern numbers) × (i ≤ length numbers) × (i-end ≡ length numbers)

@@ -1,19 +1,14 @@
 -- `replay::record::fill` meets its contract.
 use borrow.Author.Needs.{needs}
-use native.Mathlib.Omega.{arith}
-use Prim.Native.Nat.{ℕ, _+_, _-_, _*_, _≤_, _<_}
-use mathlib.Core.Path.{_≡_, refl, sym, ap, _∙_}
-use lib.ListN.{length, getD, set, length-set}
+use Prim.Native.Nat.{ℕ, _+_, _-_}
+use mathlib.Core.Path.{_≡_, refl, ap, _∙_}
+use lib.ListN.{length}
 use lib.Ieee.{Float, binary64, ofBits}
 use mathlib.Core.List.{List}
 use Rattle.replay.specs.Records.{wordOf, numberOf}
 use Rattle.rules.proofs.Arithmetic.{Reached, reached-none, reached-more, reached-all}
 use Rattle.replay.proofs.record.fill.Statement.{statement}
 use Rattle.replay.proofs.record.fill.Tie as tie
-use Rattle.replay.proofs.record.fill.Reads as reads
-use Rattle.replay.proofs.record.fill.Lts as lts
-use Rattle.patterns.proofs.number_of.Reads as number-of-reads
-use Rattle.replay.proofs.record.word_after.Reads as word-after-reads
 
 number-is : {x : Float} (bytes : List ℕ) (i : ℕ) → x ≡ ofBits binary64 (wordOf bytes i) → x ≡ numberOf bytes i
 unfolding numberOf

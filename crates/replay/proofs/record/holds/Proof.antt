@@ -1,9 +1,9 @@
 -- `replay::record::holds` meets its contract.
 use borrow.Author.Needs.{needs}
 use native.Mathlib.Omega.{arith}
-use Prim.Native.Nat.{ℕ, _+_, _-_, _*_, _≤_, _<_}
-use mathlib.Core.Path.{_≡_, refl, sym, ap, _∙_}
-use lib.ListN.{length, getD, set, length-set}
+use Prim.Native.Nat.{_+_, _-_, _≤_}
+use mathlib.Core.Path.{_≡_, refl, sym, _∙_}
+use lib.ListN.{length}
 use Rattle.replay.specs.Records.{stands, standFrom}
 use Rattle.replay.proofs.Records.{stand-more, stand-end}
 use lib.ListN.{drop}
@@ -12,10 +12,6 @@ use borrow.Author.Tests.{ne-eqb, eq-eqb}
 use Rattle.rules.specs.Arithmetic.{at as place}
 use Rattle.replay.proofs.record.holds.Statement.{statement}
 use Rattle.replay.proofs.record.holds.Tie as tie
-use Rattle.replay.proofs.record.holds.Reads as reads
-use Rattle.replay.proofs.record.holds.Lts as lts
-use Rattle.patterns.proofs.pattern_of.Reads as pattern-of-reads
-use Rattle.replay.proofs.record.word_after.Reads as word-after-reads
 
 abbrev Inv-loop : tie.InvT-loop
 Inv-loop «record» at numbers i₀ i-end i = (standFrom «record» (at + i) (drop i numbers) ≡ standFrom «record» at numbers) × (i ≤ length numbers) × (i-end ≡ length numbers)

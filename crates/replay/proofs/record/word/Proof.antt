@@ -1,16 +1,9 @@
 -- `replay::record::word` meets its contract.
 use borrow.Author.Needs.{needs}
-use native.Mathlib.Omega.{arith}
-use Prim.Native.Nat.{ℕ, _+_, _-_, _*_, _≤_, _<_}
-use mathlib.Core.Path.{_≡_, refl, sym, ap, _∙_}
-use lib.ListN.{length, getD, set, length-set}
-use borrow.Author.Needs.{needs}
+use mathlib.Core.Path.{sym, _∙_}
 use Rattle.replay.proofs.Records.{word-there, word-past}
 use Rattle.replay.proofs.record.word.Statement.{statement}
 use Rattle.replay.proofs.record.word.Tie as tie
-use Rattle.replay.proofs.record.word.Reads as reads
-use Rattle.replay.proofs.record.word.Lts as lts
-use Rattle.patterns.proofs.word_at.Reads as word-at-reads
 
 mul-word-at : tie.Need-mul-word-at
 mul-word-at c = search needs

@@ -1,16 +1,10 @@
 -- `replay::record::word_after` meets its contract.
 use borrow.Author.Needs.{needs}
 use native.Mathlib.Omega.{arith}
-use Prim.Native.Nat.{ℕ, _+_, _-_, _*_, _≤_, _<_}
-use mathlib.Core.Path.{_≡_, refl, sym, ap, _∙_}
-use lib.ListN.{length, getD, set, length-set}
-use borrow.Author.Needs.{needs}
+use mathlib.Core.Path.{sym}
 use Rattle.replay.proofs.Records.{word-past}
 use Rattle.replay.proofs.record.word_after.Statement.{statement}
 use Rattle.replay.proofs.record.word_after.Tie as tie
-use Rattle.replay.proofs.record.word_after.Reads as reads
-use Rattle.replay.proofs.record.word_after.Lts as lts
-use Rattle.replay.proofs.record.word.Reads as word-reads
 
 add-word : tie.Need-add-word
 add-word c = search needs

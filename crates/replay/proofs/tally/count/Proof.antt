@@ -1,18 +1,12 @@
 -- `replay::tally::count` meets its contract.
 use borrow.Author.Needs.{needs}
-use native.Mathlib.Omega.{arith}
-use Prim.Native.Nat.{ℕ, _+_, _-_, _*_, _≤_, _<_}
-use mathlib.Core.Path.{_≡_, refl, sym, ap, _∙_}
-use lib.ListN.{length, getD, set, length-set}
-use borrow.Author.Needs.{needs}
+use mathlib.Core.Path.{refl, sym}
+use lib.ListN.{length}
 use lib.Seq.{set-out}
 use Rattle.replay.specs.Tallies.{counted}
 use borrow.Author.Tests.{lt-ltb, le-ltb}
 use Rattle.replay.proofs.tally.count.Statement.{statement}
 use Rattle.replay.proofs.tally.count.Tie as tie
-use Rattle.replay.proofs.tally.count.Reads as reads
-use Rattle.replay.proofs.tally.count.Lts as lts
-use Rattle.std.proofs.num.wrapping_add_u64.Reads as wrapping-add-u64-reads
 
 mul-wrapping-add-u64 : tie.Need-mul-wrapping-add-u64
 mul-wrapping-add-u64 c = search needs

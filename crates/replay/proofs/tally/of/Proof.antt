@@ -1,15 +1,9 @@
 -- `replay::tally::of` meets its contract.
 use borrow.Author.Needs.{needs}
-use native.Mathlib.Omega.{arith}
-use Prim.Native.Nat.{ℕ, _+_, _-_, _*_, _≤_, _<_}
-use mathlib.Core.Path.{_≡_, refl, sym, ap, _∙_}
-use lib.ListN.{length, getD, set, length-set}
-use borrow.Author.Needs.{needs}
+use mathlib.Core.Path.{sym}
 use lib.ListN.{List·getD-eq-default}
 use Rattle.replay.proofs.tally.of.Statement.{statement}
 use Rattle.replay.proofs.tally.of.Tie as tie
-use Rattle.replay.proofs.tally.of.Reads as reads
-use Rattle.replay.proofs.tally.of.Lts as lts
 
 mul-result : tie.Need-mul-result
 mul-result c = search needs

@@ -1,18 +1,15 @@
 -- `replay::tally::total` meets its contract.
 use borrow.Author.Needs.{needs}
 use native.Mathlib.Omega.{arith}
-use Prim.Native.Nat.{ℕ, _+_, _-_, _*_, _≤_, _<_}
-use mathlib.Core.Path.{_≡_, refl, sym, ap, _∙_}
-use lib.ListN.{length, getD, set, length-set}
+use Prim.Native.Nat.{ℕ, _+_, _-_, _≤_}
+use mathlib.Core.Path.{_≡_, refl, ap, _∙_}
+use lib.ListN.{length, getD}
 use Prim.Native.Nat.{_%_, _^_}
 use native.Mathlib.Numerals.{add-one}
 use mathlib.Core.List.{List}
 use Rattle.replay.specs.Tallies.{totalTo}
 use Rattle.replay.proofs.tally.total.Statement.{statement}
 use Rattle.replay.proofs.tally.total.Tie as tie
-use Rattle.replay.proofs.tally.total.Reads as reads
-use Rattle.replay.proofs.tally.total.Lts as lts
-use Rattle.std.proofs.num.wrapping_add_u64.Reads as wrapping-add-u64-reads
 
 total-none : (tally : List ℕ) → 0 ≡ totalTo tally 0
 unfolding totalTo

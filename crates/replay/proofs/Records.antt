@@ -2,17 +2,17 @@
 use Prim.Native.Nat.{ℕ, suc, _+_, _*_, _/_, _<_, _≤_}
 use native.Mathlib.Numerals.{add-one}
 use native.Mathlib.Omega.{arith}
-use mathlib.Core.Path.{_≡_}
-use mathlib.Core.Bool.{true, false, _&&_}
+use mathlib.Core.Path.{_≡_, refl, _∙_}
+use mathlib.Core.Bool.{Bool, true, false, _&&_}
 use mathlib.Core.List.{List}
 use lib.Dec.{eqb}
 use lib.Ieee.{Float, nan, binary64, toBits}
-use lib.ListN.{length, take, drop, drop-of-length-le}
-use lib.Seq.{drop-cons}
-use borrow.Author.Tests.{lt-ltb, le-ltb, lt-leb, le-leb}
+use lib.ListN.{length, getD, take, drop, set, length-set, drop-of-length-le}
+use lib.Seq.{drop-cons, getD-set-same, getD-set-other}
+use borrow.Author.Tests.{lt-ltb, le-ltb, lt-leb, le-leb, eqb-true, eqb-false}
 use Rattle.rules.specs.Arithmetic.{at}
 use Rattle.patterns.specs.Words.{wordAt}
-use Rattle.replay.specs.Records.{wordOf, stands, standFrom, allHave, standBefore}
+use Rattle.replay.specs.Records.{wordOf, stands, standFrom, allHave, standBefore, coneWord, ConeWords}
 
 pub word-there : (bytes : List ℕ) (i : ℕ) → i < length bytes / 8 → wordOf bytes i ≡ wordAt bytes (i * 8)
 unfolding wordOf
@@ -53,3 +53,14 @@ before-not bytes from xs n pattern h e = rw (le-leb n (length xs) h, e)
 pub before-then : (bytes : List ℕ) (from : ℕ) (xs : List Float) (n pattern : ℕ) → n ≤ length xs → standFrom bytes from (take n xs) ≡ true → allHave pattern (drop n xs) ≡ standBefore bytes from xs n pattern
 unfolding standBefore
 before-then bytes from xs n pattern h e = rw (le-leb n (length xs) h, e)
+
+-- cone words: before the first turn, at a turn
+pub cone-none : (bytes : List ℕ) (from : ℕ) (ws : List ℕ) → ConeWords bytes from 0 ws ws
+cone-none bytes from ws = record { same = refl; each = λ k h. absurd (omega arith) }
+
+pub cone-more : {bytes : List ℕ} {from n : ℕ} {ws vs : List ℕ} (w : ℕ) → ConeWords bytes from n ws vs → n < length ws → w ≡ coneWord (wordOf bytes (from + n)) → ConeWords bytes from (n + 1) ws (set vs n w)
+cone-more {bytes} {from} {n} {ws} {vs} w r h e = record { same = length-set vs n w ∙ r .same; each = λ k l. go k l (eqb k n) refl }
+  where
+    go : (k : ℕ) → k < n + 1 → (t : Bool) → eqb k n ≡ t → getD (set vs n w) k 0 ≡ coneWord (wordOf bytes (from + k))
+    go k l true t = rw (eqb-true k n t) (getD-set-same vs n w 0 (omega (arith, r .same)) ∙ e)
+    go k l false t = getD-set-other vs n k w 0 (eqb-false k n t) ∙ r .each k (omega (arith, eqb-false k n t))

@@ -26,3 +26,18 @@ pub fn write_counts(records: u64, agree: u64, differ: u64) {
     io::print_decimal(STDOUT_FILENO, differ);
     io::write_all(STDOUT_FILENO, b" differ\n");
 }
+
+// The last line: all counts after the list's name. What stopped the run is a difference too.
+pub fn write_total(name: &[u8], whole: bool, records: u64, agree: u64, differ: u64) {
+    if whole {
+        io::write_all(STDOUT_FILENO, name);
+        write_counts(records, agree, differ);
+        return;
+    }
+    io::write_all(
+        STDOUT_FILENO,
+        b"stopped: a record is cut short, of no known operation, or one too many\n",
+    );
+    io::write_all(STDOUT_FILENO, name);
+    write_counts(records, agree, std::num::wrapping_add_u64(differ, 1));
+}

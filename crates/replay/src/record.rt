@@ -6,7 +6,7 @@ ghost use lib.ListN.{length};
 ghost use lib.Ieee as Ieee;
 ghost use lib.Ieee.{binary64};
 ghost use Rattle.rules.specs.Arithmetic.{each};
-ghost use Rattle.replay.specs.Records.{wordOf, numberOf, stands, standFrom, allHave, standBefore};
+ghost use Rattle.replay.specs.Records.{wordOf, numberOf, stands, standFrom, allHave, standBefore, coneWord, ConeWords};
 
 // How many words the record has.
 pub fn words(record: &[u8]) -> usize
@@ -58,6 +58,22 @@ pub fn fill(record: &[u8], at: usize, numbers: &mut [f64])
     for i in 0..numbers.len() {
         numbers[i] = patterns::number_of(word_after(record, at, i));
     }
+}
+
+// The cone words from a place on, as many as there is room for.
+pub fn fill_words(record: &[u8], at: usize, words: &mut [u16])
+    ensures { λ _. ⌜ ConeWords (now («record» .entry)) at (length (now (words .entry))) (now (words .entry)) (now (words .exit)) ⌝ }
+{
+    for i in 0..words.len() {
+        words[i] = cone_word(word_after(record, at, i));
+    }
+}
+
+// A cone word; what is too large for one counts as the largest, which is bad.
+fn cone_word(word: u64) -> u16
+    ensures { λ r. ⌜ r ≡ coneWord word ⌝ }
+{
+    if word < 65536 { word as u16 } else { 65535 }
 }
 
 // Whether a number stands in the record at a place, bit for bit.

@@ -1,22 +1,25 @@
--- `replay_cones::record::fill_words` is safe and ends: the measure is the places that are left, and their number stays.
+-- `replay::record::fill_words` meets its contract.
+use Rattle.replay.specs.Records.{coneWord, ConeWords}
+use Rattle.replay.proofs.Records.{cone-none, cone-more}
 use borrow.Author.Needs.{needs}
+use native.Mathlib.Omega.{arith}
 use Prim.Native.Nat.{_-_, _≤_}
-use mathlib.Core.Path.{_≡_}
+use mathlib.Core.Path.{_≡_, ap, _∙_}
 use lib.ListN.{length}
-use Rattle.replay_cones.proofs.record.fill_words.Statement.{statement}
-use Rattle.replay_cones.proofs.record.fill_words.Tie as tie
+use Rattle.replay.proofs.record.fill_words.Statement.{statement}
+use Rattle.replay.proofs.record.fill_words.Tie as tie
 
 abbrev Inv-loop : tie.InvT-loop
-Inv-loop «record» at words₀ i₀ i-end words i = (i ≤ length words₀) × (i-end ≡ length words₀) × (length words ≡ length words₀)
+Inv-loop «record» at words₀ i₀ i-end words i = ConeWords «record» at i words₀ words × (i ≤ length words₀) × (i-end ≡ length words₀)
 
 abbrev μ-loop : tie.MeasureT-loop
 μ-loop «record» at words₀ i₀ i-end words i = length words₀ - i
 
 loop-holds : tie.Need-loop-holds Inv-loop μ-loop
-loop-holds c = search needs
+loop-holds c = (cone-none _ _ _, search needs, search needs)
 
-wrapping-add-usize-requires : tie.Need-wrapping-add-usize-requires Inv-loop μ-loop
-wrapping-add-usize-requires c κs = search needs
+word-after-requires : tie.Need-word-after-requires Inv-loop μ-loop
+word-after-requires c κs = search needs
 
 cone-word-requires : tie.Need-cone-word-requires Inv-loop μ-loop
 cone-word-requires c κs = search needs
@@ -34,13 +37,18 @@ loop-less : tie.Need-loop-less Inv-loop μ-loop
 loop-less c = search needs
 
 loop-again : tie.Need-loop-again Inv-loop μ-loop
-loop-again c = search needs
+loop-again c =
+    let l = c .before .before .before in
+    (cone-more _ (l .loop .inv .0) (search needs) (c .cone-word .ensures ∙ ap coneWord (c .before .word-after .ensures)), search needs, search needs)
 
 same-length : tie.Need-same-length Inv-loop μ-loop
 same-length c = search needs
 
 returns : tie.Need-returns Inv-loop μ-loop
-returns c = search needs
+returns c =
+    let l = c .before .loop in
+    let end : l .i ≡ length (c .before .before .before .before .args .words .now) = omega (arith, l .inv .0 .same) in
+    rw end at (l .inv .0)
 
 pub fill-words-spec : {M : Type 1} → statement M
 fill-words-spec =
@@ -49,7 +57,7 @@ fill-words-spec =
     Inv-loop
     μ-loop
     loop-holds
-    wrapping-add-usize-requires
+    word-after-requires
     cone-word-requires
     mul-words
     slice-write-words

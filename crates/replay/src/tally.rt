@@ -1,7 +1,7 @@
 // Counts by number.
 ghost use mathlib.Core.Path.{_≡_};
 ghost use lib.Dec.{ltb};
-ghost use lib.ListN.{length, getD};
+ghost use lib.ListN.{length};
 ghost use Rattle.replay.specs.Tallies.{counted, totalTo};
 
 // One more at a place: whether there is one.
@@ -14,13 +14,6 @@ pub fn count(tally: &mut [u64], at: usize) -> bool
         return true;
     }
     false
-}
-
-// A count, 0 past the end.
-pub fn of(tally: &[u64], at: usize) -> u64
-    ensures { λ r. ⌜ r ≡ getD (now (tally .entry)) at 0 ⌝ }
-{
-    if at < tally.len() { tally[at] } else { 0 }
 }
 
 pub fn total(tally: &[u64]) -> u64

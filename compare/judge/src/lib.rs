@@ -2,10 +2,13 @@
 
 pub mod cone_list;
 pub mod draw;
+pub mod families;
+pub mod handed;
 pub mod lists;
 pub mod original;
 pub mod problem;
 pub mod random;
+pub mod ruled_sums;
 pub mod seen;
 pub mod survey;
 pub mod text;

@@ -5,6 +5,7 @@ use totsu_core::{FloatGeneric, MatOp, MatType};
 
 use crate::cone_list::{work_len, Block, ConeList, Progress};
 use crate::original::{stops_on_column_sums, stops_on_row_sums};
+use crate::ruled_sums::RuledSums;
 use crate::seen::{sight, watch, Number, Seen};
 
 pub struct Problem {
@@ -38,8 +39,9 @@ pub struct Answer {
     pub q: u64,
     pub work: Vec<f64>,
     pub cone_work: Vec<f64>,
-    /// Zeros that came out otherwise than the rule has it: see `seen`.
+    /// Zeros that came out otherwise than the rule has it, and all of unlike sign: see `seen`.
     pub other_zeros: u64,
+    pub unlike_zeros: u64,
 }
 
 /// What the original itself says.
@@ -59,7 +61,8 @@ impl Problem {
         self.a_type.size().0
     }
 
-    /// The original stops on this one: its A is empty in a way its sums don't bear.
+    /// The original stops on this one: its A is empty in a way its sums don't bear. Here it is run
+    /// with the rule's sums of that matrix.
     pub fn stops(&self) -> bool {
         stops_on_column_sums(self.a_type) || stops_on_row_sums(self.a_type)
     }
@@ -86,7 +89,7 @@ impl Problem {
             })
             .solve((
                 MatOp::new(MatType::General(n, 1), &c),
-                MatOp::new(self.a_type, &a),
+                RuledSums::new(self.a_type, &a),
                 MatOp::new(MatType::General(m, 1), &b),
                 ConeList {
                     blocks: &self.blocks,
@@ -142,6 +145,7 @@ impl Problem {
             work: run.work,
             cone_work: run.cone_work,
             other_zeros: seen.other_zeros,
+            unlike_zeros: seen.unlike_zeros,
         }
     }
 }

@@ -52,6 +52,7 @@ struct Watch {
     limit: usize,
     rotations: u64,
     other_zeros: u64,
+    unlike_zeros: u64,
     signalling: u64,
     // The semidefinite projection under way.
     next: Next,
@@ -65,6 +66,7 @@ const IDLE: Watch = Watch {
     limit: usize::MAX,
     rotations: 0,
     other_zeros: 0,
+    unlike_zeros: 0,
     signalling: 0,
     next: Next::None,
     pairs: 0,
@@ -82,6 +84,8 @@ pub struct Sight {
     pub rotations: u64,
     /// How often a larger or smaller of -0 and +0 was not the second of the two.
     pub other_zeros: u64,
+    /// How often there was a larger or smaller of -0 and +0.
+    pub unlike_zeros: u64,
     /// How often a larger or smaller had a signalling NaN.
     pub signalling: u64,
 }
@@ -99,6 +103,7 @@ pub fn sight() -> Sight {
     Sight {
         rotations: w.rotations,
         other_zeros: w.other_zeros,
+        unlike_zeros: w.unlike_zeros,
         signalling: w.signalling,
     }
 }
@@ -178,12 +183,13 @@ impl PartialOrd for Seen {
     }
 }
 
-/// Counts an answer drawn from two zeros of unlike sign that is not the second, and one that a
-/// signalling NaN had part in.
+/// Counts an answer drawn from two zeros of unlike sign, and whether it is not the second, and one
+/// that a signalling NaN had part in.
 fn chosen(a: f64, b: f64, answer: f64) -> Seen {
     let mut w = WATCH.get();
-    if a == 0.0 && b == 0.0 && answer.to_bits() != b.to_bits() {
-        w.other_zeros += 1;
+    if a == 0.0 && b == 0.0 {
+        w.unlike_zeros += u64::from(a.to_bits() != b.to_bits());
+        w.other_zeros += u64::from(answer.to_bits() != b.to_bits());
     }
     if signalling(a) || signalling(b) {
         w.signalling += 1;

@@ -91,9 +91,6 @@ pub fn read(text: &str) -> Result<Problem, String> {
     if from.at < from.words.len() {
         return Err(format!("left over: {}", from.words[from.at]));
     }
-    if problem.stops() {
-        return Err("the original stops on this empty matrix".into());
-    }
     Ok(problem)
 }
 

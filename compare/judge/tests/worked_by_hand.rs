@@ -253,6 +253,22 @@ fn empty_problem_without_tolerance() {
     );
 }
 
+/// The packed matrix of order 0, on which the original stops, is as good as the dense one.
+#[test]
+fn empty_packed_problem() {
+    for (eps_zero, max_iter) in [(1e-12, 1000), (0.0, 1)] {
+        let dense = empty(eps_zero, max_iter).solve();
+        let packed = Problem {
+            a_type: MatType::SymPack(0),
+            ..empty(eps_zero, max_iter)
+        };
+        let answer = packed.solve();
+        assert!(packed.stops());
+        assert_eq!((answer.ending, answer.k), (dense.ending, dense.k));
+        assert_eq!(words(&answer.work), words(&dense.work));
+    }
+}
+
 #[test]
 fn cone_failure_names_its_block() {
     let block = |kind, size| Block { kind, size };

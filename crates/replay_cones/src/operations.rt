@@ -1,8 +1,9 @@
 // The operations of the list, by their numbers: whether a record's answer is this repository's too.
 // Each routine is then asked again with one place too many, or too few, and has to turn that down
 // and leave everything as it is.
-use crate::record;
+use crate::room;
 use crate::semidefinite;
+use replay::record;
 use rules::Cone;
 use rules::Product;
 use rules::SolverParam;
@@ -50,13 +51,13 @@ fn block(operation: u64, record: &[u8]) -> bool {
 }
 
 fn projects(cone: Cone, dual: bool, record: &[u8], size: usize) -> bool {
-    if size >= record::ROOM {
+    if size >= room::ROOM {
         return false;
     }
     if record::words(record) != 2 * size + 2 {
         return false;
     }
-    let mut x = record::numbers(record, 2, size);
+    let mut x = room::numbers(record, 2, size);
     if !projects_and_not(cone, dual, &mut x, size) {
         return false;
     }
@@ -93,10 +94,10 @@ fn product(record: &[u8]) -> bool {
         return false;
     }
     let places = record::size(record, 5);
-    if places >= record::ROOM {
+    if places >= room::ROOM {
         return false;
     }
-    let list = record::cone_words(record, 6, blocks);
+    let list = room::cone_words(record, 6, blocks);
     projects_list(flag == 1, &list[0..blocks], record, places)
 }
 
@@ -115,21 +116,21 @@ fn projects_list(dual: bool, list: &[u16], record: &[u8], places: usize) -> bool
         return false;
     }
     let used = words - work_at;
-    if used > record::ROOM {
+    if used > room::ROOM {
         return false;
     }
     let par = semidefinite::parameters(record::number(record, 2), record::word(record, 1));
     let before = record::number(record, 3);
-    let mut x = record::numbers(record, x_at, places);
-    let mut work = [before; record::ROOM];
+    let mut x = room::numbers(record, x_at, places);
+    let mut work = [before; room::ROOM];
     let answer = project_and_not(par, dual, list, &mut x, places, &mut work, used);
     if !is_answer(answer, record, answer_at) {
         return false;
     }
-    if !record::holds_before(record, projected_at, &x, places, 0.0) {
+    if !record::holds_before(record, projected_at, &x, places, 0) {
         return false;
     }
-    record::holds_before(record, work_at, &work, used, before)
+    record::holds_before(record, work_at, &work, used, patterns::pattern_of(before))
 }
 
 // Projects the list on the first places of x; the answer is no as well if what doesn't fit is not
@@ -220,14 +221,14 @@ fn grouping(record: &[u8]) -> bool {
         return false;
     }
     let places = record::size(record, 1);
-    if places >= record::ROOM {
+    if places >= room::ROOM {
         return false;
     }
     if record::words(record) != blocks + 2 * places + 2 {
         return false;
     }
-    let list = record::cone_words(record, 2, blocks);
-    let mut xs = record::numbers(record, blocks + 2, places);
+    let list = room::cone_words(record, 2, blocks);
+    let mut xs = room::numbers(record, blocks + 2, places);
     if !groups_and_not(&list[0..blocks], &mut xs, places) {
         return false;
     }

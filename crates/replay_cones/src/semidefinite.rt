@@ -1,6 +1,7 @@
 // Semidefinite blocks: those of the list, and the cases worked by hand.
-use crate::record;
+use crate::room;
 use libc::STDOUT_FILENO;
+use replay::record;
 use rules::Cone;
 use rules::Projection;
 use rules::SolverParam;
@@ -65,7 +66,7 @@ pub fn is_no(answer: Projection) -> bool {
 // Replays a record, every way.
 pub fn agrees(record: &[u8]) -> bool {
     let places = record::size(record, 1);
-    if places >= record::ROOM {
+    if places >= room::ROOM {
         return false;
     }
     if !agrees_by(Way::MapEig, record, places) {
@@ -90,13 +91,13 @@ fn agrees_by(way: Way, record: &[u8], places: usize) -> bool
         return false;
     }
     let used = words - work_at;
-    if used > record::ROOM {
+    if used > room::ROOM {
         return false;
     }
     let par = parameters(record::number(record, 3), record::word(record, 2));
     let before = record::number(record, 4);
-    let mut x = record::numbers(record, 5, places);
-    let mut work = [before; record::ROOM];
+    let mut x = room::numbers(record, 5, places);
+    let mut work = [before; room::ROOM];
     let answer = project_and_not(
         way,
         par,
@@ -109,10 +110,10 @@ fn agrees_by(way: Way, record: &[u8], places: usize) -> bool
     if !is_answer(answer, record, answer_at) {
         return false;
     }
-    if !record::holds_before(record, x_at, &x, places, 0.0) {
+    if !record::holds_before(record, x_at, &x, places, 0) {
         return false;
     }
-    record::holds_before(record, work_at, &work, used, before)
+    record::holds_before(record, work_at, &work, used, patterns::pattern_of(before))
 }
 
 // Projects the first places of x; the answer is no as well if what doesn't fit is not turned down

@@ -1,7 +1,8 @@
 // The operations of the list, by their numbers: whether a record's answer is this repository's too.
-use crate::record;
+use crate::room;
 use crate::routines;
 use crate::routines::Routine;
+use replay::record;
 use rules::Cols;
 use rules::MatType;
 use rules::Rows;
@@ -46,13 +47,13 @@ fn vector(operation: u64, record: &[u8]) -> bool {
 
 fn norm(record: &[u8]) -> bool {
     let n = record::size(record, 0);
-    if n > record::ROOM {
+    if n > room::ROOM {
         return false;
     }
     if record::words(record) != n + 2 {
         return false;
     }
-    let x = record::numbers(record, 1, n);
+    let x = room::numbers(record, 1, n);
     record::holds_one(record, n + 1, linalg::norm(&x[0..n]))
 }
 
@@ -68,13 +69,13 @@ fn add(record: &[u8]) -> bool {
 // Scale and adds, which change one vector by a number.
 fn scale_or_adds(operation: u64, record: &[u8]) -> bool {
     let n = record::size(record, 0);
-    if n > record::ROOM {
+    if n > room::ROOM {
         return false;
     }
     if record::words(record) != 2 * n + 2 {
         return false;
     }
-    let mut y = record::numbers(record, 2, n);
+    let mut y = room::numbers(record, 2, n);
     changes(operation, record, n + 2, &mut y[0..n])
 }
 
@@ -91,13 +92,13 @@ fn changes(operation: u64, record: &[u8], at: usize, y: &mut [f64]) -> bool {
 
 fn abssum(record: &[u8]) -> bool {
     let n = record::size(record, 0);
-    if n > record::ROOM {
+    if n > room::ROOM {
         return false;
     }
     if record::words(record) != n + 3 {
         return false;
     }
-    let x = record::numbers(record, 2, n);
+    let x = room::numbers(record, 2, n);
     record::holds_one(
         record,
         n + 2,

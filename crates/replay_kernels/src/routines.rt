@@ -1,5 +1,6 @@
 // The routines that answer whether the lengths fit, each with the sizes and factors of its record.
-use crate::record;
+use crate::room;
+use replay::record;
 use rules::Cols;
 use rules::MatType;
 use rules::Rows;
@@ -70,10 +71,10 @@ fn fits_and_not(routine: Routine, first: &[f64], second: &[f64], y: &mut [f64], 
 pub fn agrees(routine: Routine, record: &[u8], start: usize, width: usize, height: usize) -> bool
     requires { ⌜ start ≤ 5 ⌝ }
 {
-    if width > record::ROOM {
+    if width > room::ROOM {
         return false;
     }
-    if height >= record::ROOM {
+    if height >= room::ROOM {
         return false;
     }
     let words = record::words(record);
@@ -82,12 +83,12 @@ pub fn agrees(routine: Routine, record: &[u8], start: usize, width: usize, heigh
     }
     let y_at = words - 2 * height;
     let stored = y_at - width - start;
-    if stored > record::ROOM {
+    if stored > room::ROOM {
         return false;
     }
-    let first = record::numbers(record, start, stored);
-    let second = record::numbers(record, y_at - width, width);
-    let mut y = record::numbers(record, y_at, height);
+    let first = room::numbers(record, start, stored);
+    let second = room::numbers(record, y_at - width, width);
+    let mut y = room::numbers(record, y_at, height);
     if !fits_and_not(
         routine,
         &first[0..stored],

@@ -1,8 +1,8 @@
 // Replays the original's square roots: standard input holds the number of records and then, for each,
 // the pattern of a number and that of its root, as compare/README.md says. Each root is taken again
 // by float::root and held to the list.
-use libc::STDIN_FILENO;
 use libc::STDOUT_FILENO;
+use replay::lines;
 
 struct Tally {
     agree: u64,
@@ -17,8 +17,7 @@ enum Found {
 
 fn replay_one() -> Found {
     let mut record = [0u8; 16];
-    let got = io::read_full(STDIN_FILENO, &mut record);
-    if got != 16 {
+    if !lines::read(&mut record, 16) {
         return Found::Missing;
     }
     let x = patterns::number_of(patterns::word_at(&record, 0));
@@ -48,14 +47,9 @@ fn replay(records: u64) -> Tally {
 
 fn main() {
     let mut head = [0u8; 8];
-    io::read_full(STDIN_FILENO, &mut head);
+    lines::read(&mut head, 8);
     let records = patterns::word_at(&head, 0);
     let tally = replay(records);
-    io::write_all(STDOUT_FILENO, b"roots: ");
-    io::print_decimal(STDOUT_FILENO, records);
-    io::write_all(STDOUT_FILENO, b" records, ");
-    io::print_decimal(STDOUT_FILENO, tally.agree);
-    io::write_all(STDOUT_FILENO, b" agree, ");
-    io::print_decimal(STDOUT_FILENO, tally.differ);
-    io::write_all(STDOUT_FILENO, b" differ\n");
+    io::write_all(STDOUT_FILENO, b"roots");
+    lines::write_counts(records, tally.agree, tally.differ);
 }

@@ -3,6 +3,7 @@
 pub mod cones;
 pub mod kernels;
 pub mod roots;
+pub mod runs;
 
 use std::path::Path;
 
@@ -11,5 +12,6 @@ use std::path::Path;
 pub fn make(seed: u64, crates: &Path) -> std::io::Result<()> {
     roots::make(seed, &crates.join("replay_roots/stdin"))?;
     kernels::make(seed, &crates.join("replay_kernels/stdin"))?;
-    cones::make(seed, &crates.join("replay_cones/stdin"))
+    cones::make(seed, &crates.join("replay_cones/stdin"))?;
+    runs::make(seed, &crates.join("replay_runs/stdin"))
 }

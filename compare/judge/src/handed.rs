@@ -1,0 +1,246 @@
+//! What the hub hands over, not yet checked, and document 01's table of refusals.
+
+use totsu_core::MatType;
+
+use crate::cone_list::{work_len, Block};
+use crate::problem::Problem;
+
+/// Number i of a vector is given[i mod count].
+#[derive(Clone, Debug)]
+pub struct Vector {
+    pub length: usize,
+    pub given: Vec<f64>,
+}
+
+impl Vector {
+    /// All of its numbers are given.
+    pub fn whole(given: Vec<f64>) -> Vector {
+        Vector {
+            length: given.len(),
+            given,
+        }
+    }
+
+    pub fn numbers(&self) -> Vec<f64> {
+        let given = self.given.iter().copied().cycle();
+        given.take(self.length).collect()
+    }
+}
+
+#[derive(Clone, Debug)]
+pub struct Handed {
+    pub max_iter: u64,
+    pub sweep_limit: u64,
+    pub eps_acc: f64,
+    pub eps_inf: f64,
+    pub eps_zero: f64,
+    pub packed: bool,
+    pub n: usize,
+    pub m: usize,
+    pub words: Vec<u16>,
+    pub c: Vector,
+    pub a: Vector,
+    pub b: Vector,
+    /// Places lent of work and of cone work, and what each of them holds.
+    pub work: usize,
+    pub cone_work: usize,
+    pub fill: f64,
+}
+
+pub const BAD_PARAM: u64 = 1;
+pub const TOO_LARGE: u64 = 2;
+pub const INVALID_OP: u64 = 3;
+pub const BAD_CONE: u64 = 4;
+pub const NOT_FINITE: u64 = 5;
+pub const WORK_SHORTAGE: u64 = 6;
+
+/// The places of work that a run of m rows and n columns needs.
+pub fn work_places(m: usize, n: usize) -> usize {
+    6 * n + 10 * m + 6
+}
+
+/// How many numbers A has.
+pub fn stored(packed: bool, m: usize, n: usize) -> usize {
+    if packed {
+        n * (n + 1) / 2
+    } else {
+        m * n
+    }
+}
+
+impl Handed {
+    /// "When the hub is turned away": the first number that applies.
+    pub fn refusal(&self) -> Option<u64> {
+        let table: [(u64, fn(&Handed) -> bool); 6] = [
+            (BAD_PARAM, Handed::bad_param),
+            (TOO_LARGE, Handed::too_large),
+            (INVALID_OP, Handed::invalid_op),
+            (BAD_CONE, Handed::bad_cone),
+            (NOT_FINITE, Handed::not_finite),
+            (WORK_SHORTAGE, Handed::work_shortage),
+        ];
+        table.iter().find(|(_, test)| test(self)).map(|(no, _)| *no)
+    }
+
+    fn bad_param(&self) -> bool {
+        let all_finite = [self.eps_acc, self.eps_inf, self.eps_zero]
+            .iter()
+            .all(|eps| eps.is_finite());
+        !all_finite
+            || self.eps_zero < 0.0
+            || self.max_iter > 1_000_000
+            || !(1..=64).contains(&self.sweep_limit)
+    }
+
+    fn too_large(&self) -> bool {
+        self.n > 256 || self.m > 256 || self.words.len() > 32
+    }
+
+    fn invalid_op(&self) -> bool {
+        self.c.length != self.n
+            || self.a.length != stored(self.packed, self.m, self.n)
+            || self.b.length != self.m
+            || self.packed && self.m != self.n
+    }
+
+    /// The blocks of the list, if no word is bad.
+    fn blocks(&self) -> Option<Vec<Block>> {
+        self.words.iter().map(|word| Block::read(*word)).collect()
+    }
+
+    fn bad_cone(&self) -> bool {
+        self.blocks()
+            .is_none_or(|blocks| blocks.iter().map(|b| b.size).sum::<usize>() != self.m)
+    }
+
+    fn not_finite(&self) -> bool {
+        let numbers = [&self.c, &self.a, &self.b].map(Vector::numbers);
+        !numbers.iter().flatten().all(|x| x.is_finite())
+    }
+
+    fn work_shortage(&self) -> bool {
+        self.work < work_places(self.m, self.n) || self.cone_work < self.needed_cone_work()
+    }
+
+    pub fn needed_cone_work(&self) -> usize {
+        work_len(&self.blocks().expect("a list without a bad word"))
+    }
+
+    /// What the original is run on; an eps_zero of −0 is read as +0.
+    pub fn problem(&self) -> Problem {
+        assert_eq!(self.refusal(), None);
+        Problem {
+            a_type: if self.packed {
+                MatType::SymPack(self.n)
+            } else {
+                MatType::General(self.m, self.n)
+            },
+            c: self.c.numbers(),
+            a: self.a.numbers(),
+            b: self.b.numbers(),
+            blocks: self.blocks().expect("a list without a bad word"),
+            max_iter: self.max_iter as usize,
+            sweep_limit: self.sweep_limit as usize,
+            eps_acc: self.eps_acc,
+            eps_inf: self.eps_inf,
+            eps_zero: self.eps_zero + 0.0,
+        }
+    }
+}
+
+#[cfg(test)]
+mod tests {
+    use super::*;
+
+    /// n = 2, m = 3, a nonnegative place and a second-order block of 2.
+    fn accepted() -> Handed {
+        Handed {
+            max_iter: 10,
+            sweep_limit: 64,
+            eps_acc: 1e-6,
+            eps_inf: 1e-6,
+            eps_zero: 1e-12,
+            packed: false,
+            n: 2,
+            m: 3,
+            words: vec![0x2001, 0x4002],
+            c: Vector::whole(vec![1.0; 2]),
+            a: Vector::whole(vec![1.0; 6]),
+            b: Vector::whole(vec![1.0; 3]),
+            work: 48,
+            cone_work: 0,
+            fill: f64::NAN,
+        }
+    }
+
+    fn changed(change: impl Fn(&mut Handed)) -> Option<u64> {
+        let mut p = accepted();
+        change(&mut p);
+        p.refusal()
+    }
+
+    /// Zeros of n columns and m rows, nonnegative.
+    fn sized(m: usize, n: usize) -> Option<u64> {
+        let zeros = |length| Vector {
+            length,
+            given: vec![0.0],
+        };
+        changed(|p| {
+            (p.m, p.n, p.work) = (m, n, work_places(m, n));
+            (p.c, p.a, p.b) = (zeros(n), zeros(m * n), zeros(m));
+            p.words = vec![1 << 13 | m as u16];
+        })
+    }
+
+    #[test]
+    fn limits_of_the_parameters() {
+        assert_eq!(accepted().refusal(), None);
+        assert_eq!(changed(|p| p.max_iter = 1_000_000), None);
+        assert_eq!(changed(|p| p.max_iter = 1_000_001), Some(1));
+        for (sweep_limit, answer) in [(0, Some(1)), (1, None), (64, None), (65, Some(1))] {
+            assert_eq!(changed(|p| p.sweep_limit = sweep_limit), answer);
+        }
+        assert_eq!(changed(|p| p.eps_zero = -0.0), None);
+        assert_eq!(changed(|p| p.eps_zero = -f64::from_bits(1)), Some(1));
+        assert_eq!(changed(|p| p.eps_acc = -1.0), None);
+        assert_eq!(changed(|p| p.eps_acc = f64::NAN), Some(1));
+        assert_eq!(changed(|p| p.eps_inf = f64::NEG_INFINITY), Some(1));
+    }
+
+    #[test]
+    fn limits_of_the_sizes() {
+        assert_eq!(sized(256, 256), None);
+        assert_eq!(sized(257, 0), Some(2));
+        assert_eq!(sized(0, 257), Some(2));
+        assert_eq!(changed(|p| p.words.resize(32, 0)), None);
+        assert_eq!(changed(|p| p.words.resize(33, 0)), Some(2));
+    }
+
+    #[test]
+    fn what_does_not_fit() {
+        assert_eq!(changed(|p| p.c.length = 1), Some(3));
+        assert_eq!(changed(|p| p.a.length = 7), Some(3));
+        assert_eq!(changed(|p| p.b.length = 4), Some(3));
+        assert_eq!(changed(|p| (p.packed, p.a.length) = (true, 3)), Some(3));
+        assert_eq!(changed(|p| p.words = vec![0xa003]), Some(4));
+        assert_eq!(
+            changed(|p| (p.words, p.cone_work) = (vec![0x8003], 6)),
+            None
+        );
+        assert_eq!(changed(|p| p.words = vec![0x8002, 0x2001]), Some(4));
+        assert_eq!(changed(|p| p.words[0] = 0x2002), Some(4));
+        assert_eq!(changed(|p| p.a.given[5] = f64::INFINITY), Some(5));
+        assert_eq!(changed(|p| p.work = 47), Some(6));
+        assert_eq!(changed(|p| p.words = vec![0x8003]), Some(6));
+    }
+
+    #[test]
+    fn the_first_that_applies() {
+        assert_eq!(changed(|p| (p.n, p.sweep_limit) = (257, 0)), Some(1));
+        assert_eq!(changed(|p| (p.n, p.work) = (257, 0)), Some(2));
+        assert_eq!(changed(|p| (p.c.length, p.work) = (3, 0)), Some(3));
+        let nan = f64::NAN;
+        assert_eq!(changed(|p| (p.words[0], p.b.given[0]) = (0, nan)), Some(4));
+        assert_eq!(changed(|p| (p.work, p.b.given[0]) = (0, nan)), Some(5));
+    }
+}

@@ -1,0 +1,379 @@
+//! The list of runs: a whole problem, what is lent with it, and what document 01's table or the
+//! original answers. The layout of each record is in compare/README.md.
+
+mod refusals;
+
+use std::collections::BTreeMap;
+use std::path::Path;
+
+use crate::cone_list::Block;
+use crate::draw::{numbers, Sort};
+use crate::families::{of_size, small, Family};
+use crate::handed::{work_places, Handed, Vector};
+use crate::original::Kind;
+use crate::problem::{Answer, Ending, Problem};
+use crate::random::Random;
+use crate::words::{words, write_list};
+
+// The listed differences that a record meets, added up.
+const EPS_ZERO: u64 = 1;
+const SWEEP_LIMIT: u64 = 2;
+const ZEROS: u64 = 4;
+const STOPS: u64 = 8;
+
+/// What the answer's first word is, from 1 to 6 for refusals.
+const NAMES: [(u64, &str); 12] = [
+    (1, "BadParam"),
+    (2, "TooLarge"),
+    (3, "InvalidOp"),
+    (4, "BadCone"),
+    (5, "NotFinite"),
+    (6, "WorkShortage"),
+    (7, "Converged"),
+    (8, "ExcessIter, scaled"),
+    (9, "ExcessIter, unscaled"),
+    (10, "Unbounded"),
+    (11, "Infeasible"),
+    (12, "ConeFailure"),
+];
+
+const DIFFERENCES: [(u64, &str); 4] = [
+    (EPS_ZERO, "eps_zero of -0"),
+    (SWEEP_LIMIT, "a sweep limit reached"),
+    (
+        ZEROS,
+        "a larger or smaller of -0 and +0 other than the second",
+    ),
+    (STOPS, "an empty matrix on which the original stops"),
+];
+
+#[derive(Default)]
+struct Records {
+    words: Vec<u64>,
+    counts: BTreeMap<u64, usize>,
+    differences: BTreeMap<u64, usize>,
+    steps: u64,
+    rotations: u64,
+    /// Steps times m·n.
+    products: u64,
+    /// Runs that met −0 beside +0 in a larger or smaller, whichever it came out.
+    unlike_zeros: usize,
+    most_words: usize,
+}
+
+fn ending_number(ending: &Ending) -> u64 {
+    match ending {
+        Ending::Converged(_) => 7,
+        Ending::ExcessIter(_) => 8,
+        Ending::ExcessIterUnscaled(_) => 9,
+        Ending::Unbounded(_) => 10,
+        Ending::Infeasible(_) => 11,
+        Ending::ConeFailure(_) => 12,
+    }
+}
+
+/// Three words: the criteria, or the failed block, and 0 where there are fewer.
+fn carried(ending: &Ending) -> [u64; 3] {
+    let mut all = [0; 3];
+    match ending {
+        Ending::ConeFailure(block) => all[0] = *block as u64,
+        _ => {
+            for (word, criterion) in all.iter_mut().zip(words(ending.criteria())) {
+                *word = criterion;
+            }
+        }
+    }
+    all
+}
+
+/// The watched run must have changed nothing. A run that a sweep limit cut off has no like.
+fn same_over_plain(p: &Problem, answer: &Answer) {
+    if matches!(answer.ending, Ending::ConeFailure(_)) {
+        return;
+    }
+    let plain = p.run::<f64>();
+    let verdict = match answer.ending {
+        Ending::Converged(_) => None,
+        Ending::Unbounded(_) => Some("Unbounded"),
+        Ending::Infeasible(_) => Some("Infeasible"),
+        _ => Some("ExcessIter"),
+    };
+    let told = plain.verdict.err().map(|e| format!("{e:?}"));
+    assert_eq!(told.as_deref(), verdict);
+    assert_eq!(plain.progress.steps, answer.k);
+    assert_eq!(words(&plain.work), words(&answer.work));
+    assert_eq!(words(&plain.cone_work), words(&answer.cone_work));
+}
+
+/// The problem, and what is lent with it.
+fn asked(p: &Handed) -> Vec<u64> {
+    let mut all = vec![p.max_iter, p.sweep_limit];
+    all.extend([p.eps_acc, p.eps_inf, p.eps_zero].map(f64::to_bits));
+    all.extend([u64::from(p.packed), p.n as u64, p.m as u64]);
+    all.push(p.words.len() as u64);
+    all.extend(p.words.iter().map(|w| u64::from(*w)));
+    for v in [&p.c, &p.a, &p.b] {
+        all.extend([v.length as u64, v.given.len() as u64]);
+        all.extend(v.given.iter().map(|x| x.to_bits()));
+    }
+    all.extend([p.work as u64, p.cone_work as u64, p.fill.to_bits()]);
+    all
+}
+
+impl Records {
+    fn push(&mut self, p: &Handed, tag: u64, answer: &[u64]) {
+        let asked = asked(p);
+        let length = asked.len() + answer.len();
+        self.words.extend([tag, length as u64]);
+        self.words.extend(asked);
+        self.words.extend(answer);
+        self.most_words = self.most_words.max(length);
+        *self.counts.entry(answer[0]).or_default() += 1;
+        for (difference, _) in DIFFERENCES {
+            if tag & difference > 0 {
+                *self.differences.entry(difference).or_default() += 1;
+            }
+        }
+    }
+
+    fn refused(&mut self, p: &Handed) {
+        let number = p.refusal().expect("a refusal");
+        self.push(p, 0, &[number, 0, 0, 0, 0, 0, 0, 0]);
+    }
+
+    /// Runs the original and writes what it answers.
+    fn run(&mut self, p: &Handed) {
+        let problem = p.problem();
+        let mut tag = 0;
+        if p.eps_zero.to_bits() == (-0.0f64).to_bits() {
+            tag += EPS_ZERO;
+        }
+        if problem.stops() {
+            tag += STOPS;
+        }
+        let answer = problem.solve();
+        same_over_plain(&problem, &answer);
+        if answer.other_zeros > 0 {
+            tag += ZEROS;
+        }
+        let number = ending_number(&answer.ending);
+        let mut told = vec![number, answer.k, answer.q];
+        told.extend(carried(&answer.ending));
+        told.extend([work_places(p.m, p.n) as u64, p.needed_cone_work() as u64]);
+        if matches!(answer.ending, Ending::ConeFailure(_)) {
+            tag += SWEEP_LIMIT;
+        } else {
+            told.extend(words(&answer.work));
+            told.extend(words(&answer.cone_work));
+        }
+        self.unlike_zeros += usize::from(answer.unlike_zeros > 0);
+        self.steps += answer.k;
+        self.rotations += answer.q;
+        self.products += answer.k * (p.m * p.n) as u64;
+        self.push(p, tag, &told);
+    }
+}
+
+// The draws.
+
+/// Sizes of 64, 128 and 256, on one side or both.
+fn large(all: &mut Records, random: &mut Random) {
+    let shapes = [
+        (false, 64, 64, 6),
+        (true, 64, 64, 6),
+        (false, 64, 2, 6),
+        (false, 3, 64, 6),
+        (false, 128, 128, 3),
+        (true, 128, 128, 3),
+        (false, 128, 1, 3),
+        (false, 2, 128, 3),
+        (false, 256, 256, 2),
+        (true, 256, 256, 2),
+        (false, 256, 1, 2),
+        (false, 1, 256, 2),
+        (false, 0, 256, 1),
+        (false, 256, 0, 1),
+    ];
+    for (packed, m, n, times) in shapes {
+        for _ in 0..times {
+            let family = random.pick(&[Family::Drawn, Family::Solvable, Family::LargeEpsZero]);
+            let mut p = of_size(random, family, packed, m, n);
+            p.c.given.truncate(29);
+            p.a.given.truncate(97);
+            p.b.given.truncate(31);
+            p.max_iter = random.pick(&[1, 2, 3, 5, 8]);
+            all.run(&p);
+        }
+    }
+}
+
+/// Semidefinite blocks up to the largest that m allows.
+fn large_blocks(all: &mut Records, random: &mut Random) {
+    for order in [10, 15, 20, 22] {
+        let m = order * (order + 1) / 2;
+        for sweep_limit in [3, 64] {
+            let mut p = of_size(random, Family::Drawn, false, m, 2);
+            p.c = Vector::whole(vec![1.0, -2.0]);
+            p.a.given = numbers(random, Sort::Ordinary, 41);
+            p.b.given = numbers(random, Sort::Whole, 37);
+            p.words = vec![Block {
+                kind: Kind::Semidefinite,
+                size: m,
+            }
+            .word()];
+            p.cone_work = p.needed_cone_work() + 1;
+            (p.max_iter, p.sweep_limit, p.eps_zero) = (2, sweep_limit, 1e-12);
+            all.run(&p);
+        }
+    }
+}
+
+/// The largest max_iter, on problems that end early all the same, and the most cone words.
+fn at_the_limits(all: &mut Records, random: &mut Random) {
+    let mut met = 0;
+    while met < 40 {
+        let mut p = small(random, Family::Solvable);
+        (p.eps_acc, p.eps_inf) = (1e300, 1e300);
+        p.max_iter = 100;
+        if p.problem().solve().k < 100 {
+            p.max_iter = 1_000_000;
+            all.run(&p);
+            met += 1;
+        }
+    }
+    for _ in 0..40 {
+        let mut p = small(random, Family::Drawn);
+        let empty = random.pick(&[0x0000, 0x2000, 0x4000, 0x6000, 0x8000]);
+        p.words.resize(32, empty);
+        all.run(&p);
+    }
+}
+
+/// Tight tolerances and many steps.
+fn long(all: &mut Records, random: &mut Random) {
+    for _ in 0..120 {
+        let mut p = small(random, Family::Solvable);
+        p.max_iter = if p.m * p.n > 40 { 300 } else { 3000 };
+        p.sweep_limit = 64;
+        (p.eps_acc, p.eps_inf) = random.pick(&[(1e-6, 1e-6), (1e-9, 1e-9), (1e-4, 1e-6)]);
+        p.eps_zero = 1e-12;
+        all.run(&p);
+    }
+}
+
+fn records(seed: u64) -> Records {
+    let mut random = Random::new(seed);
+    let mut all = Records::default();
+    for (family, times) in [
+        (Family::Drawn, 1100),
+        (Family::Solvable, 800),
+        (Family::Contradictory, 600),
+        (Family::Falling, 600),
+        (Family::FewSweeps, 500),
+        (Family::LargeEpsZero, 350),
+    ] {
+        for _ in 0..times {
+            let p = small(&mut random, family);
+            all.run(&p);
+        }
+    }
+    long(&mut all, &mut random);
+    at_the_limits(&mut all, &mut random);
+    large(&mut all, &mut random);
+    large_blocks(&mut all, &mut random);
+    for number in 1..=6 {
+        for _ in 0..110 {
+            all.refused(&refusals::one(&mut random, number));
+        }
+    }
+    // Each two rows of the table at once, and each three.
+    for first in 1..=6 {
+        for second in first + 1..=6 {
+            for _ in 0..15 {
+                all.refused(&refusals::several(&mut random, &[first, second]));
+            }
+            for third in second + 1..=6 {
+                for _ in 0..4 {
+                    all.refused(&refusals::several(&mut random, &[first, second, third]));
+                }
+            }
+        }
+    }
+    all
+}
+
+pub fn make(seed: u64, path: &Path) -> std::io::Result<()> {
+    let all = records(seed);
+    let total = all.counts.values().sum();
+    write_list(path, total, &all.words)?;
+    println!("runs: {total} records, {} bytes", 8 + 8 * all.words.len());
+    for (number, name) in NAMES {
+        let count = all.counts.get(&number).unwrap_or(&0);
+        println!("  {count:6} {number:2} {name}");
+    }
+    println!("of these, meeting a listed difference:");
+    for (number, name) in DIFFERENCES {
+        let count = all.differences.get(&number).unwrap_or(&0);
+        println!("  {count:6} {name}");
+    }
+    println!(
+        "{} runs met -0 beside +0 in a larger or smaller",
+        all.unlike_zeros
+    );
+    println!(
+        "{} steps, {} rotations, {} steps times m·n; at most {} words to a record",
+        all.steps, all.rotations, all.products, all.most_words
+    );
+    Ok(())
+}
+
+#[cfg(test)]
+mod tests {
+    use super::*;
+
+    /// Each record names its own end, a seed draws the same list again, and no answer is rare.
+    #[test]
+    fn records_follow_one_another() {
+        let all = records(1);
+        let (mut at, mut met) = (0, 0);
+        while at < all.words.len() {
+            assert!(all.words[at] < 16);
+            assert!(all.words[at + 1] <= 5000);
+            at += 2 + all.words[at + 1] as usize;
+            met += 1;
+        }
+        assert_eq!(at, all.words.len());
+        assert_eq!(met, all.counts.values().sum::<usize>());
+        assert_eq!(all.words, records(1).words);
+        assert!(all.words.len() * 8 <= 6_000_000);
+        for (number, name) in NAMES {
+            assert!(all.counts[&number] >= 100, "{name}");
+        }
+    }
+
+    /// What is refused has no steps, and the places of both buffers are left out.
+    #[test]
+    fn a_refusal_is_eight_words() {
+        let mut all = Records::default();
+        let mut random = Random::new(1);
+        let p = refusals::one(&mut random, 3);
+        all.refused(&p);
+        assert_eq!(all.words[..2], [0, asked(&p).len() as u64 + 8]);
+        assert_eq!(all.words[all.words.len() - 8..], [3, 0, 0, 0, 0, 0, 0, 0]);
+    }
+
+    /// A run of no numbers: Converged at once, all criteria +0, and six places of work.
+    #[test]
+    fn the_empty_problem() {
+        let mut all = Records::default();
+        let mut p = of_size(&mut Random::new(1), Family::Drawn, false, 0, 0);
+        (p.eps_acc, p.eps_inf, p.eps_zero) = (1e-6, 1e-6, -0.0);
+        (p.max_iter, p.words) = (1, vec![]);
+        all.run(&p);
+        assert_eq!(all.words[0], EPS_ZERO);
+        let answer = &all.words[2 + asked(&p).len()..];
+        let infinite = f64::INFINITY.to_bits();
+        assert_eq!(answer[..8], [9, 1, 0, infinite, infinite, 0, 6, 0]);
+        assert_eq!(answer.len(), 14);
+    }
+}

@@ -1,0 +1,70 @@
+// The runs worked by hand in document 01 that are left to a program.
+use crate::answers;
+use crate::room;
+use libc::STDOUT_FILENO;
+use rules::Cols;
+use rules::Rows;
+use rules::SolverParam;
+use rules::Storage;
+
+// The answer to a dense problem of zeros, with so many numbers of c and of A, places of work, and one
+// cone word.
+fn of_zeros(m: usize, n: usize, c: usize, a: usize, work: usize, word: u16) -> u64 {
+    if m > room::ROOM {
+        return 0;
+    }
+    if c > room::ROOM {
+        return 0;
+    }
+    if a > room::A_ROOM {
+        return 0;
+    }
+    if work > room::WORK_ROOM {
+        return 0;
+    }
+    let of_c = [0.0; room::ROOM];
+    let of_a = [0.0; room::A_ROOM];
+    let of_b = [0.0; room::ROOM];
+    let words = [word; 1];
+    let mut lent = [0.0; room::WORK_ROOM];
+    let mut cone_work = [0.0; 12];
+    let answer = solver::solve(
+        SolverParam::new(1, 64),
+        Rows(m),
+        Cols(n),
+        Storage::Dense,
+        &of_c[0..c],
+        &of_a[0..a],
+        &of_b[0..m],
+        &words,
+        &mut lent[0..work],
+        &mut cone_work,
+    );
+    let ending = answer.ending;
+    answers::number_of(ending)
+}
+
+fn write_case(holds: bool) -> bool {
+    if holds {
+        io::write_all(STDOUT_FILENO, b": holds\n")
+    } else {
+        io::write_all(STDOUT_FILENO, b": does not hold\n")
+    }
+}
+
+// The words are a nonnegative block of 256 and of 257, a semidefinite one of 3 and of 4.
+pub fn write_cases() {
+    io::write_all(STDOUT_FILENO, b"sizes 256, accepted");
+    write_case(of_zeros(256, 256, 256, 65536, 4102, 8448) > 6);
+    io::write_all(STDOUT_FILENO, b"sizes 257, refused by 2");
+    write_case(of_zeros(257, 257, 257, 66049, 4118, 8449) == 2);
+    io::write_all(STDOUT_FILENO, b"kind 4 of size 3, accepted");
+    write_case(of_zeros(3, 1, 1, 3, 42, 32771) > 6);
+    io::write_all(STDOUT_FILENO, b"kind 4 of size 4, refused by 4");
+    write_case(of_zeros(4, 1, 1, 4, 52, 32772) == 4);
+    io::write_all(
+        STDOUT_FILENO,
+        b"c of wrong length and short work, refused by 3",
+    );
+    write_case(of_zeros(3, 1, 2, 3, 41, 32771) == 3);
+}

@@ -1,0 +1,167 @@
+// Replays whole problems: standard input holds the number of records and then the records, as
+// compare/README.md says. Each problem is run by solver::solve, and its answer and all of both buffers
+// are held to the list. Then come the runs worked by hand.
+mod answers;
+mod cases;
+mod room;
+mod runs;
+
+use libc::STDOUT_FILENO;
+use replay::lines;
+use replay::tally;
+use room::A_ROOM;
+use runs::Found;
+
+// The longest record of the list has 4,307 words.
+const MOST_WORDS: u64 = 5000;
+
+const MOST_BYTES: usize = 40000;
+
+// What is counted: 0 all of 1 to 12, which are refusals by their numbers up to 6 and then endings; then,
+// once more, those whose problem meets a listed difference. The last are apart: a larger or smaller of -0
+// and +0 came out otherwise.
+const ALL: usize = 0;
+
+const EPS_ZERO: usize = 13;
+
+const SWEEP_LIMIT: usize = 14;
+
+const STOPS: usize = 15;
+
+const ZEROS: usize = 16;
+
+const COUNTED: usize = 17;
+
+// Reads a record and replays it: whether there was a whole one of a known kind.
+fn replay_one(a: &mut [f64], agree: &mut [u64; COUNTED], differ: &mut [u64; COUNTED]) -> bool {
+    let mut head = [0u8; 16];
+    if !lines::read(&mut head, 16) {
+        return false;
+    }
+    let tag = patterns::word_at(&head, 0);
+    let words = patterns::word_at(&head, 8);
+    replay_rest(tag, words, a, agree, differ)
+}
+
+// Goes on after the first two words of a record, the differences met and how many words follow.
+fn replay_rest(
+    tag: u64,
+    words: u64,
+    a: &mut [f64],
+    agree: &mut [u64; COUNTED],
+    differ: &mut [u64; COUNTED],
+) -> bool {
+    if words > MOST_WORDS {
+        return false;
+    }
+    let length = words as usize * 8;
+    let mut bytes = [0u8; MOST_BYTES];
+    if !lines::read(&mut bytes, length) {
+        return false;
+    }
+    let found = runs::replay(&bytes[0..length], a);
+    match found {
+        Found::Agrees(number) => count(agree, number, tag),
+        Found::Differs(number) => count(differ, number, tag),
+        Found::Unknown => false,
+    }
+}
+
+// Counts an answer of this number, with the differences that its problem meets, which the tag adds up.
+fn count(tally: &mut [u64; COUNTED], number: usize, tag: u64) -> bool {
+    if number < 1 || number > 12 || tag > 15 {
+        return false;
+    }
+    if tag / 4 % 2 == 1 {
+        return tally::count(tally, ZEROS);
+    }
+    tally::count(tally, ALL);
+    tally::count(tally, number);
+    count_if(tally, tag % 2 == 1, EPS_ZERO);
+    count_if(tally, tag / 2 % 2 == 1, SWEEP_LIMIT);
+    count_if(tally, tag / 8 == 1, STOPS)
+}
+
+fn count_if(tally: &mut [u64; COUNTED], met: bool, at: usize) -> bool {
+    if met {
+        return tally::count(tally, at);
+    }
+    true
+}
+
+// Replays so many records, or up to one that can't be: whether all were, and nothing follows.
+fn replay(
+    records: u64,
+    a: &mut [f64],
+    agree: &mut [u64; COUNTED],
+    differ: &mut [u64; COUNTED],
+) -> bool {
+    for _ in 0..records {
+        if !replay_one(a, agree, differ) {
+            return false;
+        }
+    }
+    lines::at_end()
+}
+
+// Writes the name of what is counted, if there is one of this number.
+fn write_name(number: usize) -> bool {
+    match number {
+        1 => io::write_all(STDOUT_FILENO, b"BadParam"),
+        2 => io::write_all(STDOUT_FILENO, b"TooLarge"),
+        3 => io::write_all(STDOUT_FILENO, b"InvalidOp"),
+        4 => io::write_all(STDOUT_FILENO, b"BadCone"),
+        5 => io::write_all(STDOUT_FILENO, b"NotFinite"),
+        6 => io::write_all(STDOUT_FILENO, b"WorkShortage"),
+        7 => io::write_all(STDOUT_FILENO, b"Converged"),
+        8 => io::write_all(STDOUT_FILENO, b"ExcessIter, scaled"),
+        9 => io::write_all(STDOUT_FILENO, b"ExcessIter, unscaled"),
+        10 => io::write_all(STDOUT_FILENO, b"Unbounded"),
+        11 => io::write_all(STDOUT_FILENO, b"Infeasible"),
+        12 => io::write_all(STDOUT_FILENO, b"ConeFailure"),
+        13 => io::write_all(STDOUT_FILENO, b"of all these, eps_zero of -0"),
+        14 => io::write_all(STDOUT_FILENO, b"of all these, a sweep limit reached"),
+        15 => {
+            io::write_all(
+                STDOUT_FILENO,
+                b"of all these, an empty matrix on which the original stops",
+            )
+        }
+        16 => {
+            io::write_all(
+                STDOUT_FILENO,
+                b"apart from these, a larger or smaller of -0 and +0 otherwise",
+            )
+        }
+        _ => false,
+    }
+}
+
+fn write_counted(agree: &[u64; COUNTED], differ: &[u64; COUNTED]) {
+    for number in 0..COUNTED {
+        if write_name(number) {
+            let records = std::num::wrapping_add_u64(agree[number], differ[number]);
+            lines::write_counts(records, agree[number], differ[number]);
+        }
+    }
+}
+
+fn write_total(whole: bool, agree: &[u64; COUNTED], differ: &[u64; COUNTED]) {
+    let records = std::num::wrapping_add_u64(agree[ALL], differ[ALL]);
+    lines::write_total(b"runs", whole, records, agree[ALL], differ[ALL]);
+}
+
+fn main() {
+    let mut head = [0u8; 8];
+    if !lines::read(&mut head, 8) {
+        io::write_all(STDOUT_FILENO, b"stopped: there is no list\n");
+        return;
+    }
+    let mut a = [0.0; A_ROOM];
+    let mut agree = [0u64; COUNTED];
+    let mut differ = [0u64; COUNTED];
+    let whole = replay(patterns::word_at(&head, 0), &mut a, &mut agree, &mut differ);
+    write_counted(&agree, &differ);
+    write_total(whole, &agree, &differ);
+    cases::write_cases();
+}

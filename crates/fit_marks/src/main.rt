@@ -13,27 +13,13 @@ use rules::Rows;
 use rules::SolverParam;
 use rules::Storage;
 
-const MARKS: usize = 4;
-
 const N: usize = 3;
 
-const M: usize = 2 * MARKS;
+// Four marks.
+const M: usize = 8;
 
-// The two rows of a mark, in a matrix that stands column by column.
-fn put_mark(i: usize, days: f64, ahead: f64, a: &mut [f64; 24], b: &mut [f64; 8]) {
-    if i < MARKS {
-        let above = 2 * i;
-        let below = above + 1;
-        a[above] = 1.0;
-        a[below] = -1.0;
-        a[M + above] = days;
-        a[M + below] = -days;
-        a[M + M + above] = -1.0;
-        a[M + M + below] = -1.0;
-        b[above] = ahead;
-        b[below] = -ahead;
-    }
-}
+// What is counted in thousandths is below this.
+const MOST: usize = 10000;
 
 fn write_ending(ending: Ending) {
     match ending {
@@ -53,12 +39,12 @@ fn write_ending(ending: Ending) {
     ;
 }
 
-// How many whole thousandths a number has, counted up to 9,999.
+// How many whole thousandths a number has.
 fn thousandths(x: f64) -> u64 {
     let scaled = x * 1000.0;
     let mut whole: u64 = 0;
     let mut next = 1.0;
-    for _ in 0..9999 {
+    for _ in 1..MOST {
         if next <= scaled {
             whole = std::num::wrapping_add_u64(whole, 1);
         }
@@ -81,12 +67,34 @@ fn write_solution(x: &[f64]) {
 
 fn main() {
     let c = [0.0, 0.0, 1.0];
-    let mut a = [0.0; 24];
-    let mut b = [0.0; 8];
-    put_mark(0, 0.0, 0.5, &mut a, &mut b);
-    put_mark(1, 14.0, 1.2, &mut a, &mut b);
-    put_mark(2, 31.0, 2.0, &mut a, &mut b);
-    put_mark(3, 49.0, 3.0, &mut a, &mut b);
+    // the columns of offset, drift and e; after 0, 14, 31 and 49 days
+    let a = [
+        1.0,
+        -1.0,
+        1.0,
+        -1.0,
+        1.0,
+        -1.0,
+        1.0,
+        -1.0,
+        0.0,
+        0.0,
+        14.0,
+        -14.0,
+        31.0,
+        -31.0,
+        49.0,
+        -49.0,
+        -1.0,
+        -1.0,
+        -1.0,
+        -1.0,
+        -1.0,
+        -1.0,
+        -1.0,
+        -1.0,
+    ];
+    let b = [0.5, -0.5, 1.2, -1.2, 2.0, -2.0, 3.0, -3.0];
     // one block: nonnegative, 8 places
     let words = [0x2008u16];
     // 6n + 10m + 6 places of work; no semidefinite block, so no cone work

@@ -1,6 +1,11 @@
-// The solution in work: x is its first n places, y the next m.
+// A run's vectors come into work; of it x is the first n places, y the next m.
+mod parts;
+mod settling;
+
+pub use parts::clear;
 use rules::Cols;
 use rules::Rows;
+pub use settling::settle;
 ghost use mathlib.Core.Path.{_≡_};
 ghost use Rattle.rules.specs.Run.{solutionX, solutionY};
 

@@ -2,8 +2,7 @@ pub mod Moves
 pub mod Cones
 pub mod Updated
 pub mod Preparing
-pub mod Parted
 pub mod Runs
-pub mod Settling
+pub mod Starting
 pub mod Whole
 pub mod Outcomes

@@ -14,9 +14,10 @@ use Rattle.rules.specs.Prepare.{Norms, prepared, preparedNorms, zeros}
 use Rattle.rules.specs.Run.{run, runFrom, allowance, laidOut, isConeFailure}
 use Rattle.rules.proofs.Lengths.{prepared-sized}
 use Rattle.solver.specs.Fitting.{stateOf, LikeX, LikeY, Needed}
-use Rattle.solver.specs.Solve.{Prepared, SettledBy, Lent, AtZero, RanIn}
+use Rattle.solution.specs.Settle.{Settled}
+use Rattle.solution.proofs.Parted.{final-finished}
+use Rattle.solver.specs.Solve.{Prepared, Lent, AtZero, RanIn}
 use Rattle.solver.specs.Run.{AsEnded, Iterated}
-use Rattle.solver.proofs.Parted.{final-finished}
 
 -- ---- the six vectors at zero
 
@@ -80,7 +81,7 @@ module _ {p : Problem} {x y dpTau dpSigma rx tx : List Float} {ns : Norms} {x' y
 
 -- ---- after the last step
 
-module _ {p : Problem} {answer : Answer} {x y dpTau dpSigma rx tx cone work work' cone' : List Float} (i : AsEnded (run p) answer (stateOf x y dpTau dpSigma rx tx cone)) (n : length cone ≡ coneWork (blocks p)) (b : SettledBy (p .m) (p .n) (answer .ending) (stateOf x y dpTau dpSigma rx tx cone) work work' cone') where
+module _ {p : Problem} {answer : Answer} {x y dpTau dpSigma rx tx cone work x' work' cone' : List Float} (i : AsEnded (run p) answer (stateOf x y dpTau dpSigma rx tx cone)) (n : length cone ≡ coneWork (blocks p)) (b : Settled (p .m) (p .n) x y dpTau dpSigma rx tx work (answer .ending) cone x' work' cone') where
   pub ran-in : RanIn p work answer work' cone'
   ran-in = go (isConeFailure (run p .ending)) refl
     where

@@ -2,6 +2,5 @@ pub mod Fitting
 pub mod Update
 pub mod Verdict
 pub mod Preparing
-pub mod Solution
 pub mod Run
 pub mod Solve

@@ -6,17 +6,14 @@ use mathlib.Core.List.{List, _++_}
 use lib.Ieee.{Float}
 use lib.ListN.{length, drop}
 use Rattle.rules.specs.declared.Answer.{Answer}
-use Rattle.rules.specs.declared.Ending.{Ending}
 use Rattle.rules.specs.Vectors.{scaled}
 use Rattle.rules.specs.Arithmetic.{+0}
 use Rattle.rules.specs.Limits.{mostSteps}
 use Rattle.rules.specs.Product.{coneWork}
 use Rattle.rules.specs.Problem.{Problem, embed, blocks, lengthX, lengthY, workLength}
-use Rattle.rules.specs.Step.{State}
 use Rattle.rules.specs.Prepare.{Norms, norms, startX, dpTauOf, dpSigmaOf, zeros}
-use Rattle.rules.specs.Run.{run, laidOut, isScaled, isConeFailure, leftBy}
+use Rattle.rules.specs.Run.{run, laidOut, isConeFailure, leftBy}
 use Rattle.solver.specs.Fitting.{Ready}
-use Rattle.solver.specs.Solution.{finishedX}
 
 -- before the first step, from the four vectors as they were
 pub record Prepared (p : Problem) (x y dpTau : List Float) (ns : Norms) (x' y' dpTau' dpSigma' : List Float) : Type 0 where
@@ -25,16 +22,6 @@ pub record Prepared (p : Problem) (x y dpTau : List Float) (ns : Norms) (x' y' d
   pub y-is : y' ≡ scaled +0 y
   pub tau-is : dpTau' ≡ dpTauOf p dpTau
   pub sigma-is : dpSigma' ≡ dpSigmaOf p dpTau
-
--- work and cone work after a run that ended so in state s; of cone work only the required part
-pub record Settled (p : Problem) (e : Ending) (s : State) (work work' cone' : List Float) : Type 0 where
-  pub work-is : work' ≡ cond (isConeFailure e) (zeros (workLength (p .m) (p .n))) (laidOut p e s) ++ drop (workLength (p .m) (p .n)) work
-  pub cone-is : cone' ≡ cond (isConeFailure e) (zeros (length (s .cone))) (s .cone)
-
--- the same by the sizes alone
-pub record SettledBy (m n : ℕ) (e : Ending) (s : State) (work work' cone' : List Float) : Type 0 where
-  pub work-is : work' ≡ cond (isConeFailure e) (zeros (workLength m n)) (finishedX m n (isScaled e) (s .x) ++ s .y ++ s .dpTau ++ s .dpSigma ++ s .rx ++ s .tx) ++ drop (workLength m n) work
-  pub cone-is : cone' ≡ cond (isConeFailure e) (zeros (length (s .cone))) (s .cone)
 
 -- a problem that was accepted, with buffers that are long enough: of cone work the required part
 pub record Lent (p : Problem) (work cone : List Float) : Type 0 where

@@ -3,7 +3,6 @@ mod criteria;
 mod embed;
 mod entry;
 mod judge;
-mod parts;
 mod pieces;
 mod prepare;
 mod run;

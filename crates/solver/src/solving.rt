@@ -1,5 +1,4 @@
 // An accepted run, in vectors and buffers that were made for it.
-use crate::parts;
 use crate::pieces;
 use crate::run;
 use rules::Answer;
@@ -31,7 +30,7 @@ pub(crate) fn run_in(
     requires { ⌜ AtZero m n (now x) (now y) (now «dp_tau») (now «dp_sigma») (now rx) (now tx) ⌝ }
     ensures { λ r. ⌜ RanIn (problemOf m n storage (now (c .entry)) (now (a .entry)) (now (b .entry)) (now (words .entry)) par) (now (work .entry)) r (now (work .exit)) (now («cone_work» .exit)) ⌝ }
 {
-    parts::clear(cone_work);
+    solution::clear(cone_work);
     let norms = pieces::prepare_all(par, m, n, storage, c, a, b, words, x, y, dp_tau, dp_sigma);
     let answer = run::iterate(
         par,
@@ -52,7 +51,7 @@ pub(crate) fn run_in(
         cone_work,
     );
     let ending = answer.ending;
-    pieces::settle(
+    solution::settle(
         m,
         n,
         ending,

@@ -1,7 +1,7 @@
 -- `solver::pieces::prepare_all` meets its contract.
 use mathlib.Core.Path.{sym, _∙_}
 use Rattle.rules.specs.Problem.{embed, problemOf}
-use Rattle.solver.proofs.Settling.{startX-is}
+use Rattle.solver.proofs.Starting.{startX-is}
 use borrow.Author.Needs.{needs}
 use Rattle.solver.proofs.pieces.prepare_all.Statement.{statement}
 use Rattle.solver.proofs.pieces.prepare_all.Tie as tie

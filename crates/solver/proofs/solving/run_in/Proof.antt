@@ -2,6 +2,7 @@
 use native.Mathlib.Omega.{arith}
 use borrow.Author.Needs.{needs}
 use Rattle.solver.proofs.Whole.{zero-x, zero-y, zero-tau, zero-sigma, zero-rx, zero-tx, cleared-needed, prepared-x, prepared-y, prepared-tau, prepared-sigma, whole-run, ran-in}
+use Rattle.solution.proofs.Settled.{settled-if-fitting}
 use Rattle.solver.proofs.solving.run_in.Statement.{statement}
 use Rattle.solver.proofs.solving.run_in.Tie as tie
 
@@ -24,14 +25,7 @@ iterate-requires c κs =
     (start .pre .0 .ready, (prepared-x z q, (prepared-y z q, (prepared-tau z q, (prepared-sigma z q, (zero-rx z, (zero-tx z, (cleared-needed (start .pre .0) (cleared .ensures), start .pre .0 .steps))))))))
 
 settle-requires : tie.Need-settle-requires
-settle-requires c κs =
-    let start = c .before .before .before .before .before .before .before .before .before .before .before .before .before .before .before .before .before .before .before .before .before .before .before .before .before .before .before .before .before .before .before .before .before .before .before .before .before .before .before .before .before .before .before .before .before .before .before .before .before .before .before .before .before .before .before in
-    let before = c .before .before .before .before .before .before .before .before .before .before .before .before .before .before .before .before .before .before .before .before .before .before .before .before .before .before .before .before .before .before .before .before .before .before .prepare-all in
-    let steps = c .before .before .before .before .before .before .before .before .before .before .before .before .before .before .before .before .before .before .iterate in
-    let z = start .pre .1 in
-    let q = before .ensures in
-    let ready = start .pre .0 .ready in
-    ((ready .operators .m-within, ready .operators .n-within), (record { is = omega (arith, prepared-x z q .is, steps .kept) }, (record { is = omega (arith, prepared-y z q .is, steps .kept) }, (prepared-tau z q, (prepared-sigma z q, (record { is = omega (arith, zero-rx z .is, steps .kept) }, (record { is = omega (arith, zero-tx z .is, steps .kept) }, start .pre .0 .work-long)))))))
+settle-requires c κs = search needs
 
 same-length : tie.Need-same-length
 same-length c =
@@ -86,8 +80,22 @@ returns c =
     let steps = c .before .before .before .before .before .before .before .before .before .before .before .before .before .before .before .before .before .before .before .before .before .before .before .before .before .iterate in
     let after = c .before .before .before .before .before .before .settle in
     let z = start .pre .1 in
+    let q = before .ensures in
     let whole = whole-run z (before .ensures) (start .pre .0) (cleared .ensures) (steps .ensures) in
-    ran-in whole (omega (arith, start .pre .0 .cone-long, cleared .kept, steps .kept)) (after .ensures)
+    let ready = start .pre .0 .ready .operators in
+    ran-in whole (omega (arith, start .pre .0 .cone-long, cleared .kept, steps .kept)) (settled-if-fitting
+    (record {
+      m-within = ready .m-within;
+      n-within = ready .n-within;
+      x-long = omega (arith, prepared-x z q .is, steps .kept);
+      y-long = omega (arith, prepared-y z q .is, steps .kept);
+      tau-long = prepared-tau z q .is;
+      sigma-long = prepared-sigma z q .is;
+      rx-long = omega (arith, zero-rx z .is, steps .kept);
+      tx-long = omega (arith, zero-tx z .is, steps .kept);
+      work-long = start .pre .0 .work-long;
+    })
+    (after .ensures))
 
 pub run-in-spec : {M : Type 1} → statement M
 run-in-spec =

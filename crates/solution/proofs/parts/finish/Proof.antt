@@ -1,4 +1,4 @@
--- `solver::parts::finish` meets its contract.
+-- `solution::parts::finish` meets its contract.
 use borrow.Author.Needs.{needs}
 use native.Mathlib.Omega.{arith}
 use Prim.Native.Nat.{_+_, _-_, _≤_}
@@ -7,9 +7,9 @@ use lib.Ieee.{ofBits}
 use Rattle.rules.specs.Helpers.{one}
 use Rattle.rules.specs.Arithmetic.{_*ᶠ_}
 use Rattle.rules.proofs.Arithmetic.{Reached, reached-none, reached-more}
-use Rattle.solver.proofs.Parted.{finished-by, finished-not}
-use Rattle.solver.proofs.parts.finish.Statement.{statement}
-use Rattle.solver.proofs.parts.finish.Tie as tie
+use Rattle.solution.proofs.Parted.{finished-by, finished-not}
+use Rattle.solution.proofs.parts.finish.Statement.{statement}
+use Rattle.solution.proofs.parts.finish.Tie as tie
 
 abbrev Inv-loop : tie.InvT-loop
 Inv-loop m n byTau x₀ end by i₀ x i = Reached (λ k v. by *ᶠ v) i x₀ x × (end ≡ n + m) × (i ≤ end)
@@ -62,7 +62,7 @@ returns c =
     let k = c .before .before .before .before .args in
     let l = c .before .loop in
     let all : l .i ≡ k .n + k .m = omega (arith, l .inv .1, l .inv .2, c .loop-test) in
-    rw (c .before .before .before .if1 .taken) (finished-by (k .m) (k .n) _ _ _ refl (c .before .before .before .before .pre .is) (rw all at (l .inv .0 .is)))
+    rw (c .before .before .before .if1 .taken) (finished-by (k .m) (k .n) _ _ _ refl (c .before .before .before .before .pre) (rw all at (l .inv .0 .is)))
 
 returns-2 : tie.Need-returns-2 Inv-loop μ-loop
 returns-2 c = rw (c .if1 .left) (finished-not (c .before .args .m) (c .before .args .n) _)

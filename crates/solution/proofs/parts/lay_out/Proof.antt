@@ -1,8 +1,8 @@
--- `solver::parts::lay_out` meets its contract.
+-- `solution::parts::lay_out` meets its contract.
 use borrow.Author.Needs.{needs}
-use Rattle.solver.proofs.Parted.{laid-first, laid-more}
-use Rattle.solver.proofs.parts.lay_out.Statement.{statement}
-use Rattle.solver.proofs.parts.lay_out.Tie as tie
+use Rattle.solution.proofs.Parted.{laid-first, laid-more}
+use Rattle.solution.proofs.parts.lay_out.Statement.{statement}
+use Rattle.solution.proofs.parts.lay_out.Tie as tie
 
 add-to-tau : tie.Need-add-to-tau
 add-to-tau c = search needs

@@ -3,13 +3,13 @@ ghost use Prim.Native.Nat.{_+_, _≤_};
 ghost use mathlib.Core.Path.{_≡_};
 ghost use mathlib.Core.List.{_++_};
 ghost use lib.ListN.{length, drop};
+ghost use Rattle.rules.specs.Problem.{lengthX};
 ghost use Rattle.rules.specs.Prepare.{zeros};
-ghost use Rattle.solver.specs.Fitting.{LikeX};
-ghost use Rattle.solver.specs.Solution.{finishedX, copiedTo};
+ghost use Rattle.solution.specs.Parts.{finishedX, copiedTo};
 
 // x and y over tau, where the ending asks for it.
 pub(crate) fn finish(m: usize, n: usize, by_tau: bool, x: &mut [f64])
-    requires { ⌜ LikeX m n (now x) ⌝ }
+    requires { ⌜ length (now x) ≡ lengthX m n ⌝ }
     ensures { λ _. ⌜ now (x .exit) ≡ finishedX m n «by_tau» (now (x .entry)) ⌝ }
 {
     if by_tau {
@@ -56,7 +56,7 @@ fn copy_to(v: &[f64], start: usize, work: &mut [f64])
 }
 
 // Every place becomes +0.
-pub(crate) fn clear(v: &mut [f64])
+pub fn clear(v: &mut [f64])
     ensures { λ _. ⌜ now (v .exit) ≡ zeros (length (now (v .entry))) ⌝ }
 {
     for k in 0..v.len() {

@@ -16,7 +16,7 @@ use Rattle.rules.specs.Step.{part}
 use Rattle.rules.specs.Run.{finalX, isScaled}
 use Rattle.rules.specs.declared.Ending.{Ending}
 use Rattle.rules.proofs.Parts.{put, drop-rest}
-use Rattle.solver.specs.Solution.{finishedX, copiedTo}
+use Rattle.solution.specs.Parts.{finishedX, copiedTo}
 
 pub cleared : (v : List Float) → each (λ k w. +0) v ≡ zeros (length v)
 unfolding each

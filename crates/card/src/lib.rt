@@ -1,0 +1,164 @@
+// A problem as a card file: bits, the most significant first, read into words and numbers and written back.
+ghost use Prim.Native.Nat.{_+_, _*_, _^_, _<_, _≤_};
+ghost use mathlib.Core.Path.{_≡_};
+ghost use mathlib.Core.List.{_++_};
+ghost use lib.ListN.{length, drop, getD};
+ghost use Rattle.card.specs.Card.{bitsOfBytes, readCard, numberCount};
+ghost use Rattle.card.specs.Fields.{fieldAt, fieldsAt, restAt};
+ghost use Rattle.card.specs.Outcome.{answerOf, ReadOutcome};
+
+// What is read: the packed flag, n, m, the number of cone words, max_iter and the sweep limit.
+pub enum CardRead {
+    No,
+    Fault(u8),
+    Read(bool, usize, usize, usize, u64, u64),
+}
+
+// Two to a power.
+fn power(exponent: usize) -> u64
+    requires { ⌜ exponent < 64 ⌝ }
+    ensures { λ r. ⌜ r ≡ 2 ^ exponent ⌝ }
+{
+    let mut p: u64 = 1;
+    for k in 0..exponent {
+        p = p * 2;
+    }
+    p
+}
+
+// The bit at a place, 0 past the end.
+fn bit(bytes: &[u8], at: usize) -> u64
+    ensures value { λ r. ⌜ r ≡ getD (bitsOfBytes (now (bytes .entry))) at 0 ⌝ }
+    ensures bound { λ r. ⌜ r < 2 ⌝ }
+{
+    let i = at / 8;
+    if i < bytes.len() {
+        let weight = power(7 - at % 8);
+        return bytes[i] as u64 / weight % 2;
+    }
+    0
+}
+
+// The number that some bits from a place on say.
+fn field(bytes: &[u8], at: usize, width: usize) -> u64
+    requires { ⌜ width ≤ 64 ⌝ }
+    requires { ⌜ at + width ≤ 8 * length (now bytes) ⌝ }
+    requires { ⌜ at + width < 2 ^ 64 ⌝ }
+    ensures value { λ r. ⌜ r ≡ fieldAt at width (bitsOfBytes (now (bytes .entry))) ⌝ }
+    ensures bound { λ r. ⌜ r < 2 ^ width ⌝ }
+{
+    let mut v: u64 = 0;
+    for k in 0..width {
+        v = v * 2 + bit(bytes, at + k);
+    }
+    v
+}
+
+// How many numbers a card has.
+fn number_count(packed: bool, n: usize, m: usize) -> usize
+    requires { ⌜ n ≤ 32 ⌝ }
+    requires { ⌜ m ≤ 32 ⌝ }
+    ensures value { λ r. ⌜ r ≡ numberCount packed n m ⌝ }
+    ensures bound { λ r. ⌜ r ≤ 1091 ⌝ }
+{
+    if packed {
+        return 3 + n + n * (n + 1) / 2 + m;
+    }
+    3 + n + m * n + m
+}
+
+// What a card says beside its lists, or its first fault, once n and m are judged.
+fn rest_of(bytes: &[u8], n: usize, m: usize) -> CardRead
+    requires { ⌜ n ≤ 32 ⌝ }
+    requires { ⌜ m ≤ 32 ⌝ }
+    requires { ⌜ 3 ≤ length (now bytes) ⌝ }
+    ensures { λ r. ⌜ r ≡ answerOf (restAt n m (bitsOfBytes (now (bytes .entry)))) ⌝ }
+{
+    let packed = field(bytes, 4, 1) == 1;
+    let count = field(bytes, 17, 6) as usize;
+    let total = 50 + 16 * count + 64 * number_count(packed, n, m);
+    let needed = (total + 7) / 8;
+    if bytes.len() < needed {
+        return CardRead::Fault(1);
+    }
+    if field(bytes, total, needed * 8 - total) != 0 {
+        return CardRead::Fault(4);
+    }
+    if bytes.len() != needed {
+        return CardRead::Fault(5);
+    }
+    let max_iter = field(bytes, 23 + 16 * count, 20);
+    let sweep_limit = field(bytes, 43 + 16 * count, 7);
+    CardRead::Read(packed, n, m, count, max_iter, sweep_limit)
+}
+
+// What a card says beside its lists, or its first fault.
+fn reading_of(bytes: &[u8]) -> CardRead
+    ensures { λ r. ⌜ r ≡ answerOf (readCard (now (bytes .entry))) ⌝ }
+{
+    if bytes.len() < 1 {
+        return CardRead::Fault(1);
+    }
+    if field(bytes, 0, 4) != 1 {
+        return CardRead::Fault(2);
+    }
+    if bytes.len() < 2 {
+        return CardRead::Fault(1);
+    }
+    let n = field(bytes, 5, 6) as usize;
+    if n > 32 {
+        return CardRead::Fault(3);
+    }
+    if bytes.len() < 3 {
+        return CardRead::Fault(1);
+    }
+    let m = field(bytes, 11, 6) as usize;
+    if m > 32 {
+        return CardRead::Fault(3);
+    }
+    rest_of(bytes, n, m)
+}
+
+// Reads so many words.
+fn fill_words(bytes: &[u8], words: &mut [u16], count: usize)
+    requires { ⌜ count ≤ 63 ⌝ }
+    requires { ⌜ count ≤ length (now words) ⌝ }
+    requires { ⌜ 23 + 16 * count ≤ 8 * length (now bytes) ⌝ }
+    ensures { λ r. ⌜ now (words .exit) ≡ fieldsAt count 23 16 (bitsOfBytes (now (bytes .entry))) ++ drop count (now (words .entry)) ⌝ }
+{
+    for i in 0..count {
+        words[i] = field(bytes, 23 + 16 * i, 16) as u16;
+    }
+}
+
+// Reads so many numbers from a place on.
+fn fill_numbers(bytes: &[u8], at: usize, numbers: &mut [u64], count: usize)
+    requires { ⌜ at ≤ 1058 ⌝ }
+    requires { ⌜ count ≤ 1091 ⌝ }
+    requires { ⌜ count ≤ length (now numbers) ⌝ }
+    requires { ⌜ at + 64 * count ≤ 8 * length (now bytes) ⌝ }
+    ensures { λ r. ⌜ now (numbers .exit) ≡ fieldsAt count at 64 (bitsOfBytes (now (bytes .entry))) ++ drop count (now (numbers .entry)) ⌝ }
+{
+    for i in 0..count {
+        numbers[i] = field(bytes, at + 64 * i, 64);
+    }
+}
+
+// Reads a card into two buffers. It answers a plain no where they may be too small, and changes
+// them only where the card has no fault.
+pub fn read_card(bytes: &[u8], words: &mut [u16], numbers: &mut [u64]) -> CardRead
+    ensures { λ r. ⌜ ReadOutcome (now (bytes .entry)) (now (words .entry)) (now (numbers .entry)) r (now (words .exit)) (now (numbers .exit)) ⌝ }
+{
+    if words.len() < 63 {
+        return CardRead::No;
+    }
+    if numbers.len() < 1091 {
+        return CardRead::No;
+    }
+    let reading = reading_of(bytes);
+    if let CardRead::Read(packed, n, m, count, _, _) = reading {
+        fill_words(bytes, words, count);
+        fill_numbers(bytes, 50 + 16 * count, numbers, number_count(packed, n, m));
+    }
+    reading
+}

@@ -23,12 +23,12 @@ countAt bits = fieldAt 17 6 bits
 -- how many bits a card has, and what it says, once n and m are known
 unfoldable pub bitCount : ℕ → ℕ → List ℕ → ℕ
 unfolding fieldAt
-bitCount n m bits = 50 + 16 * countAt bits + 64 * numberCount (eqb (fieldAt 4 1 bits) 1) n m
+bitCount n m bits = 23 + 16 * countAt bits + 20 + 7 + 64 * numberCount (eqb (fieldAt 4 1 bits) 1) n m
 
 unfoldable pub cardAt : ℕ → ℕ → List ℕ → Card
 unfolding fieldAt fieldsAt
 cardAt n m bits =
-    record { packed = eqb (fieldAt 4 1 bits) 1; n = n; m = m; words = fieldsAt (countAt bits) 23 16 bits; maxIter = fieldAt (23 + 16 * countAt bits) 20 bits; sweepLimit = fieldAt (43 + 16 * countAt bits) 7 bits; numbers = fieldsAt (numberCount (eqb (fieldAt 4 1 bits) 1) n m) (50 + 16 * countAt bits) 64 bits }
+    record { packed = eqb (fieldAt 4 1 bits) 1; n = n; m = m; words = fieldsAt (countAt bits) 23 16 bits; maxIter = fieldAt (23 + 16 * countAt bits) 20 bits; sweepLimit = fieldAt (23 + 16 * countAt bits + 20) 7 bits; numbers = fieldsAt (numberCount (eqb (fieldAt 4 1 bits) 1) n m) (23 + 16 * countAt bits + 20 + 7) 64 bits }
 
 -- what is left to judge then
 unfoldable pub restAt : ℕ → ℕ → List ℕ → Reading

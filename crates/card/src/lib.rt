@@ -76,7 +76,8 @@ fn rest_of(bytes: &[u8], n: usize, m: usize) -> CardRead
 {
     let packed = field(bytes, 4, 1) == 1;
     let count = field(bytes, 17, 6) as usize;
-    let total = 50 + 16 * count + 64 * number_count(packed, n, m);
+    let after_words = 23 + 16 * count;
+    let total = after_words + 20 + 7 + 64 * number_count(packed, n, m);
     let needed = (total + 7) / 8;
     if bytes.len() < needed {
         return CardRead::Fault(1);
@@ -87,8 +88,8 @@ fn rest_of(bytes: &[u8], n: usize, m: usize) -> CardRead
     if bytes.len() != needed {
         return CardRead::Fault(5);
     }
-    let max_iter = field(bytes, 23 + 16 * count, 20);
-    let sweep_limit = field(bytes, 43 + 16 * count, 7);
+    let max_iter = field(bytes, after_words, 20);
+    let sweep_limit = field(bytes, after_words + 20, 7);
     CardRead::Read(packed, n, m, count, max_iter, sweep_limit)
 }
 
@@ -158,7 +159,7 @@ pub fn read_card(bytes: &[u8], words: &mut [u16], numbers: &mut [u64]) -> CardRe
     let reading = reading_of(bytes);
     if let CardRead::Read(packed, n, m, count, _, _) = reading {
         fill_words(bytes, words, count);
-        fill_numbers(bytes, 50 + 16 * count, numbers, number_count(packed, n, m));
+        fill_numbers(bytes, 23 + 16 * count + 20 + 7, numbers, number_count(packed, n, m));
     }
     reading
 }

@@ -1,3 +1,5 @@
 pub mod Bits
 pub mod Binary
 pub mod Places
+pub mod Rest
+pub mod Front

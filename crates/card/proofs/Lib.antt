@@ -3,3 +3,5 @@ pub mod Binary
 pub mod Places
 pub mod Rest
 pub mod Front
+pub mod Found
+pub mod Outcome

@@ -156,10 +156,13 @@ pub fn read_card(bytes: &[u8], words: &mut [u16], numbers: &mut [u64]) -> CardRe
     if numbers.len() < 1091 {
         return CardRead::No;
     }
-    let reading = reading_of(bytes);
-    if let CardRead::Read(packed, n, m, count, _, _) = reading {
-        fill_words(bytes, words, count);
-        fill_numbers(bytes, 23 + 16 * count + 20 + 7, numbers, number_count(packed, n, m));
+    match reading_of(bytes) {
+        CardRead::No => return CardRead::No,
+        CardRead::Fault(f) => return CardRead::Fault(f),
+        CardRead::Read(packed, n, m, count, max_iter, sweep_limit) => {
+            fill_words(bytes, words, count);
+            fill_numbers(bytes, 23 + 16 * count + 20 + 7, numbers, number_count(packed, n, m));
+            CardRead::Read(packed, n, m, count, max_iter, sweep_limit)
+        }
     }
-    reading
 }

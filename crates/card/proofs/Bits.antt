@@ -1,6 +1,6 @@
 -- Laws of bits: how many there are, which one stands at a place, what a field is bit by bit.
 use Prim.Native.Nat.{ℕ, zero, suc, _+_, _-_, _*_, _/_, _%_, _^_, _≤_, _<_}
-use native.Mathlib.Nat.{mul-zero, mul-suc}
+use native.Mathlib.Nat.{mul-zero, mul-suc, pow-suc, pow-le-pow-right}
 use native.Mathlib.Numerals.{add-one}
 use native.Mathlib.Omega.{arith}
 use mathlib.Core.Path.{_≡_, refl, sym, ap, _∙_}
@@ -71,6 +71,13 @@ unfolding fieldAt
 field-more at k bits h =
     let l : k < length (drop at bits) = rw (length-drop at bits) (omega arith) in
     rw (take-suc (drop at bits) k 0 l, value-snoc 0 (take k (drop at bits)) (getD (drop at bits) k 0), getD-drop at bits k 0)
+
+-- before the last bit there is room for one more
+pub bit-room : (v k : ℕ) → v < 2 ^ k → k < 64 → v < 9223372036854775808
+bit-room v k below h = omega (arith, pow-le-pow-right {n = 2} (omega arith) {i = k} {j = 63} (omega arith))
+
+pub bit-below : (v b k : ℕ) → v < 2 ^ k → b < 2 → v * 2 + b < 2 ^ (k + 1)
+bit-below v b k below h = rw (add-one k, pow-suc 2 k) (omega arith)
 
 -- ---- fields, one after another
 

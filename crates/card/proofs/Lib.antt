@@ -5,3 +5,5 @@ pub mod Rest
 pub mod Front
 pub mod Found
 pub mod Outcome
+pub mod Fronts
+pub mod Bytes

@@ -33,17 +33,17 @@ module _ (k : Card) (bits : List ℕ) (len total : ℕ) (whole : length bits ≡
   pub none-left : len ≡ bytesFor total → eqb (length (drop total bits)) (length (drop total bits) % 8) ≡ true
   none-left e = eq-eqb (length (drop total bits)) (length (drop total bits) % 8) (rw left (omega arith))
 
-  pub some-left : (len ≡ bytesFor total → ⊥) → eqb (length (drop total bits)) (length (drop total bits) % 8) ≡ false
-  some-left f = ne-eqb (length (drop total bits)) (length (drop total bits) % 8) (λ e. f (same (rw left at e)))
+  pub some-left : bytesFor total < len → eqb (length (drop total bits)) (length (drop total bits) % 8) ≡ false
+  some-left h = ne-eqb (length (drop total bits)) (length (drop total bits) % 8) (λ e. differs (rw left at e))
     where
-      same : 8 * len - total ≡ (8 * len - total) % 8 → len ≡ bytesFor total
-      same e = omega arith
+      differs : 8 * len - total ≡ (8 * len - total) % 8 → ⊥
+      differs e = omega arith
 
   pub closed-padding : (fieldAt total (padding total) bits ≡ 0 → ⊥) → closed k (drop total bits) ≡ fault 4
   unfolding closed
   closed-padding f = rw (padding-is, ne-eqb (fieldAt total (padding total) bits) 0 f)
 
-  pub closed-more : fieldAt total (padding total) bits ≡ 0 → (len ≡ bytesFor total → ⊥) → closed k (drop total bits) ≡ fault 5
+  pub closed-more : fieldAt total (padding total) bits ≡ 0 → bytesFor total < len → closed k (drop total bits) ≡ fault 5
   unfolding closed
   closed-more e f = rw (padding-is, eq-eqb (fieldAt total (padding total) bits) 0 e, some-left f)
 
@@ -63,8 +63,8 @@ module _ (n m : ℕ) (bits : List ℕ) (len total : ℕ) (whole : length bits �
   pub rest-padding : bytesFor total ≤ len → (fieldAt total (padding total) bits ≡ 0 → ⊥) → restAt n m bits ≡ fault 4
   rest-padding h f = fits h ∙ closed-padding (cardAt n m bits) bits len total whole h f
 
-  pub rest-more : bytesFor total ≤ len → fieldAt total (padding total) bits ≡ 0 → (len ≡ bytesFor total → ⊥) → restAt n m bits ≡ fault 5
-  rest-more h e f = fits h ∙ closed-more (cardAt n m bits) bits len total whole h e f
+  pub rest-more : fieldAt total (padding total) bits ≡ 0 → bytesFor total < len → restAt n m bits ≡ fault 5
+  rest-more e f = fits (omega arith) ∙ closed-more (cardAt n m bits) bits len total whole (omega arith) e f
 
   pub rest-whole : fieldAt total (padding total) bits ≡ 0 → len ≡ bytesFor total → restAt n m bits ≡ read (cardAt n m bits)
   rest-whole e f = fits (omega arith) ∙ closed-whole (cardAt n m bits) bits len total whole (omega arith) e f

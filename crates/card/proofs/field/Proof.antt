@@ -1,7 +1,6 @@
 -- `card::field` meets its contract: after k bits it is the field of that width.
 use borrow.Author.Needs.{needs}
 use native.Mathlib.Omega.{arith}
-use native.Mathlib.Nat.{pow-suc, pow-le-pow-right}
 use native.Mathlib.Numerals.{add-one}
 use Prim.Native.Nat.{ℕ, suc, _+_, _-_, _*_, _^_, _≤_, _<_}
 use mathlib.Core.Path.{_≡_, refl, sym, ap, _∙_}
@@ -9,7 +8,7 @@ use mathlib.Core.List.{List}
 use lib.ListN.{length, getD}
 use Rattle.card.specs.Card.{bitsOfBytes}
 use Rattle.card.specs.Fields.{fieldAt}
-use Rattle.card.proofs.Bits.{bits-length, field-none, field-more}
+use Rattle.card.proofs.Bits.{bits-length, field-none, field-more, bit-room, bit-below}
 use Rattle.card.proofs.field.Statement.{statement}
 use Rattle.card.proofs.field.Tie as tie
 
@@ -18,13 +17,6 @@ Inv-loop bytes at width v₀ k₀ v k = (v ≡ fieldAt at k (bitsOfBytes bytes))
 
 abbrev μ-loop : tie.MeasureT-loop
 μ-loop bytes at width v₀ k₀ v k = width - k
-
--- before the last bit there is room for one more
-room : (v k : ℕ) → v < 2 ^ k → k < 64 → v < 9223372036854775808
-room v k below h = omega (arith, pow-le-pow-right {n = 2} (omega arith) {i = k} {j = 63} (omega arith))
-
-below-more : (v b k : ℕ) → v < 2 ^ k → b < 2 → v * 2 + b < 2 ^ (k + 1)
-below-more v b k below h = rw (add-one k, pow-suc 2 k) (omega arith)
 
 one-more : (bytes : List ℕ) (at v b k : ℕ) → at + k < 8 * length bytes → v ≡ fieldAt at k (bitsOfBytes bytes) → b ≡ getD (bitsOfBytes bytes) (at + k) 0
     → v * 2 + b ≡ fieldAt at (k + 1) (bitsOfBytes bytes)
@@ -35,7 +27,7 @@ loop-holds : tie.Need-loop-holds Inv-loop μ-loop
 loop-holds c = (sym (field-none _ _), omega arith, omega arith)
 
 mul-v : tie.Need-mul-v Inv-loop μ-loop
-mul-v c = omega (arith, room (c .before .loop .v) (c .before .loop .k) (c .before .loop .inv .1) (omega arith))
+mul-v c = omega (arith, bit-room (c .before .loop .v) (c .before .loop .k) (c .before .loop .inv .1) (omega arith))
 
 add-bit : tie.Need-add-bit Inv-loop μ-loop
 add-bit c = search needs
@@ -46,7 +38,7 @@ bit-requires c κs = search needs
 add-v : tie.Need-add-v Inv-loop μ-loop
 add-v c =
     let l = c .before .before .loop in
-    omega (arith, room (l .v) (l .k) (l .inv .1) (omega arith), c .bit .ensures .1)
+    omega (arith, bit-room (l .v) (l .k) (l .inv .1) (omega arith), c .bit .ensures .1)
 
 add-k : tie.Need-add-k Inv-loop μ-loop
 add-k c = search needs
@@ -58,7 +50,7 @@ loop-again : tie.Need-loop-again Inv-loop μ-loop
 loop-again c =
     let l = c .before .before .loop in
     let a = c .before .before .before .before .args in
-    (one-more (a .bytes .now) (a .at) (l .v) (c .bit .result) (l .k) (omega arith) (l .inv .0) (c .bit .ensures .0), below-more (l .v) (c .bit .result) (l .k) (l .inv .1) (c .bit .ensures .1), omega arith)
+    (one-more (a .bytes .now) (a .at) (l .v) (c .bit .result) (l .k) (omega arith) (l .inv .0) (c .bit .ensures .0), bit-below (l .v) (c .bit .result) (l .k) (l .inv .1) (c .bit .ensures .1), omega arith)
 
 returns : tie.Need-returns Inv-loop μ-loop
 returns c =

@@ -72,7 +72,7 @@ returns-3 c =
     let bits = bitsOfBytes (a .bytes .now) in
     let whole = bits-length (a .bytes .now) in
     let is = total-is (a .n) (a .m) bits (c .before .before .before .before .before .before .field .result) (c .before .before .before .before .before .field2 .result) (c .before .before .before .before .number-count .result) (c .before .before .before .before .before .before .field .ensures .0) (c .before .before .before .before .before .field2 .ensures .0) (c .before .before .before .before .number-count .ensures .0) in
-    rw (rest-more (a .n) (a .m) bits (length (a .bytes .now)) _ whole (omega (arith, is)) (omega arith) (sym (c .before .before .field3 .ensures .0) ∙ c .before .if2 .left) (c .if3 .taken))
+    rw (rest-more (a .n) (a .m) bits (length (a .bytes .now)) _ whole (omega (arith, is)) (sym (c .before .before .field3 .ensures .0) ∙ c .before .if2 .left) (omega arith))
 
 field-requires-4 : tie.Need-field-requires-4
 field-requires-4 c κs = search needs
@@ -89,7 +89,7 @@ returns-4 c =
     let bits = bitsOfBytes (a .bytes .now) in
     let whole = bits-length (a .bytes .now) in
     let is = total-is (a .n) (a .m) bits (c .before .before .before .before .before .before .before .before .field .result) (c .before .before .before .before .before .before .before .field2 .result) (c .before .before .before .before .before .before .number-count .result) (c .before .before .before .before .before .before .before .before .field .ensures .0) (c .before .before .before .before .before .before .before .field2 .ensures .0) (c .before .before .before .before .before .before .number-count .ensures .0) in
-    rw (rest-whole (a .n) (a .m) bits (length (a .bytes .now)) _ whole (omega (arith, is)) (sym (c .before .before .before .before .field3 .ensures .0) ∙ c .before .before .before .if2 .left) (c .before .before .if3 .left)) (answer-is (a .n) (a .m) bits (c .before .before .before .before .before .before .before .before .field .result) (c .before .before .before .before .before .before .before .field2 .result) (c .before .field4 .result) (c .field5 .result) (c .before .before .before .before .before .before .before .before .field .ensures .0) (c .before .before .before .before .before .before .before .field2 .ensures .0) (c .before .field4 .ensures .0) (c .field5 .ensures .0))
+    rw (rest-whole (a .n) (a .m) bits (length (a .bytes .now)) _ whole (omega (arith, is)) (sym (c .before .before .before .before .field3 .ensures .0) ∙ c .before .before .before .if2 .left) (omega arith)) (answer-is (a .n) (a .m) bits (c .before .before .before .before .before .before .before .before .field .result) (c .before .before .before .before .before .before .before .field2 .result) (c .before .field4 .result) (c .field5 .result) (c .before .before .before .before .before .before .before .before .field .ensures .0) (c .before .before .before .before .before .before .before .field2 .ensures .0) (c .before .field4 .ensures .0) (c .field5 .ensures .0))
 
 pub rest-of-spec : {M : Type 1} → statement M
 rest-of-spec =

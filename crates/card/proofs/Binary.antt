@@ -50,6 +50,7 @@ value-below v (x ∷ bits) b =
   where
     turned : (a p : ℕ) → a * 2 * p ≡ a * (p * 2)
     turned a p = rw (mul-assoc a 2 p) (ap (λ (q : ℕ). a * q) (omega arith))
+
     below : {a b c : ℕ} → a < b → b ≤ c → a < c
     below p q = omega arith
 

@@ -29,7 +29,7 @@ padded-bit bits a k h = go (ltb k (length (drop a bits))) refl
         ∙ sym (List·getD-eq-default bits 0 {n = a + k} out)
 
 padded-length : (bits : List ℕ) (a : ℕ) → 8 ≤ length (drop a bits ++ replicate 8 0)
-padded-length bits a = rw (length-append (drop a bits) (replicate 8 0), length-replicate 8 0) (omega arith)
+padded-length bits a = rw (length-append (drop a bits) (replicate 8 0), length-replicate {A = ℕ} 8 0) (omega arith)
 
 -- one bit more of a byte
 pub byte-more : (bits : List ℕ) (i v b k : ℕ) → k < 8 → v ≡ fieldAt 0 k (drop (8 * i) bits ++ replicate 8 0) → b ≡ getD bits (8 * i + k) 0

@@ -76,7 +76,8 @@ module _ (bytes : List ℕ) (packed : Bool) (n m count maxIter sweepLimit : ℕ)
         inside = leb-true total (length bits) (s7 .holds);
         zeros = s8 .holds;
         none-left = s9 .holds;
-        is = card-by-places bytes ∙ s1 .same ∙ s2 .same ∙ s3 .same ∙ s4 .same ∙ s5 .same ∙ s6 .same ∙ rest-opened n' m' bits ∙ s7 .same ∙ closed-opened (cardAt n' m' bits) (drop total bits) ∙ s8 .same ∙ s9 .same }
+        is = card-by-places bytes ∙ s1 .same ∙ s2 .same ∙ s3 .same ∙ s4 .same ∙ s5 .same ∙ s6 .same ∙ rest-opened n' m' bits ∙ s7 .same ∙ closed-opened (cardAt n' m' bits) (drop total bits) ∙ s8 .same ∙ s9 .same;
+      }
 
   said : Read (eqb (fieldAt 4 1 (bitsOfBytes bytes)) 1) (fieldAt 5 6 (bitsOfBytes bytes)) (fieldAt 11 6 (bitsOfBytes bytes)) (fieldAt 17 6 (bitsOfBytes bytes)) (fieldAt (23 + 16 * fieldAt 17 6 (bitsOfBytes bytes)) 20 (bitsOfBytes bytes)) (fieldAt (23 + 16 * fieldAt 17 6 (bitsOfBytes bytes) + 20) 7 (bitsOfBytes bytes)) ≡ Read packed n m count maxIter sweepLimit
   said = answer-is _ _ (bitsOfBytes bytes) _ _ _ _ refl refl refl refl ∙ (rw (found-at .is) at e)

@@ -7,3 +7,4 @@ pub mod Found
 pub mod Outcome
 pub mod Fronts
 pub mod Bytes
+pub mod Writing

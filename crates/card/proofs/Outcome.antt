@@ -61,4 +61,5 @@ module _ (bytes words numbers : List ℕ) where
         record {
           answered = rw (enough g h) (sym e);
           words-left = rw (enough g h) (w ∙ sym (words-are bytes packed n m count maxIter sweepLimit e words));
-          numbers-left = rw (enough g h) (k ∙ sym (numbers-are bytes packed n m count maxIter sweepLimit e numbers)) }
+          numbers-left = rw (enough g h) (k ∙ sym (numbers-are bytes packed n m count maxIter sweepLimit e numbers));
+        }

@@ -168,7 +168,12 @@ pub fn read_card(bytes: &[u8], words: &mut [u16], numbers: &mut [u64]) -> CardRe
         CardRead::Fault(f) => return CardRead::Fault(f),
         CardRead::Read(packed, n, m, count, max_iter, sweep_limit) => {
             fill_words(bytes, words, count);
-            fill_numbers(bytes, 23 + 16 * count + 20 + 7, numbers, number_count(packed, n, m));
+            fill_numbers(
+                bytes,
+                23 + 16 * count + 20 + 7,
+                numbers,
+                number_count(packed, n, m),
+            );
             CardRead::Read(packed, n, m, count, max_iter, sweep_limit)
         }
     }
@@ -192,7 +197,16 @@ fn flag_of(packed: bool) -> u64
 }
 
 // The bit at a place of a card, 0 past its end.
-fn card_bit(packed: bool, n: usize, m: usize, words: &[u16], max_iter: u64, sweep_limit: u64, numbers: &[u64], at: usize) -> u64
+fn card_bit(
+    packed: bool,
+    n: usize,
+    m: usize,
+    words: &[u16],
+    max_iter: u64,
+    sweep_limit: u64,
+    numbers: &[u64],
+    at: usize,
+) -> u64
     requires { ⌜ length (now words) ≤ 63 ⌝ }
     requires { ⌜ length (now numbers) ≤ 1091 ⌝ }
     ensures value { λ r. ⌜ r ≡ getD (cardBits (cardOf packed n m (now (words .entry)) «max_iter» «sweep_limit» (now (numbers .entry)))) at 0 ⌝ }
@@ -231,7 +245,16 @@ fn card_bit(packed: bool, n: usize, m: usize, words: &[u16], max_iter: u64, swee
 }
 
 // A byte of a card, zero bits after the last.
-fn card_byte(packed: bool, n: usize, m: usize, words: &[u16], max_iter: u64, sweep_limit: u64, numbers: &[u64], i: usize) -> u64
+fn card_byte(
+    packed: bool,
+    n: usize,
+    m: usize,
+    words: &[u16],
+    max_iter: u64,
+    sweep_limit: u64,
+    numbers: &[u64],
+    i: usize,
+) -> u64
     requires { ⌜ length (now words) ≤ 63 ⌝ }
     requires { ⌜ length (now numbers) ≤ 1091 ⌝ }
     requires { ⌜ i < 8861 ⌝ }
@@ -240,13 +263,33 @@ fn card_byte(packed: bool, n: usize, m: usize, words: &[u16], max_iter: u64, swe
 {
     let mut v: u64 = 0;
     for k in 0..8usize {
-        v = v * 2 + card_bit(packed, n, m, words, max_iter, sweep_limit, numbers, 8 * i + k);
+        v = v * 2
+            + card_bit(
+                packed,
+                n,
+                m,
+                words,
+                max_iter,
+                sweep_limit,
+                numbers,
+                8 * i + k,
+            );
     }
     v
 }
 
 // Writes so many bytes of a card.
-fn write_bytes(packed: bool, n: usize, m: usize, words: &[u16], max_iter: u64, sweep_limit: u64, numbers: &[u64], bytes: &mut [u8], count: usize)
+fn write_bytes(
+    packed: bool,
+    n: usize,
+    m: usize,
+    words: &[u16],
+    max_iter: u64,
+    sweep_limit: u64,
+    numbers: &[u64],
+    bytes: &mut [u8],
+    count: usize,
+)
     requires { ⌜ length (now words) ≤ 63 ⌝ }
     requires { ⌜ length (now numbers) ≤ 1091 ⌝ }
     requires { ⌜ count ≤ 8861 ⌝ }
@@ -260,7 +303,16 @@ fn write_bytes(packed: bool, n: usize, m: usize, words: &[u16], max_iter: u64, s
 
 // Writes a card into a buffer. It answers a plain no, and changes nothing, where a field does not
 // hold what it is to say, the numbers are not as many as n and m ask, or the buffer is too small.
-pub fn write_card(packed: bool, n: usize, m: usize, words: &[u16], max_iter: u64, sweep_limit: u64, numbers: &[u64], bytes: &mut [u8]) -> Written
+pub fn write_card(
+    packed: bool,
+    n: usize,
+    m: usize,
+    words: &[u16],
+    max_iter: u64,
+    sweep_limit: u64,
+    numbers: &[u64],
+    bytes: &mut [u8],
+) -> Written
     ensures { λ r. ⌜ WriteOutcome (cardOf packed n m (now (words .entry)) «max_iter» «sweep_limit» (now (numbers .entry))) (now (bytes .entry)) r (now (bytes .exit)) ⌝ }
 {
     if n > 32 {
@@ -285,6 +337,16 @@ pub fn write_card(packed: bool, n: usize, m: usize, words: &[u16], max_iter: u64
     if bytes.len() < count {
         return Written::No;
     }
-    write_bytes(packed, n, m, words, max_iter, sweep_limit, numbers, bytes, count);
+    write_bytes(
+        packed,
+        n,
+        m,
+        words,
+        max_iter,
+        sweep_limit,
+        numbers,
+        bytes,
+        count,
+    );
     Written::Bytes(count)
 }

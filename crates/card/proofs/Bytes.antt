@@ -28,7 +28,7 @@ padded-bit bits a k h = go (ltb k (length (drop a bits))) refl
         ∙ getD-replicate 8 (k - length (drop a bits)) 0 0 (omega arith)
         ∙ sym (List·getD-eq-default bits 0 {n = a + k} out)
 
-padded-length : (bits : List ℕ) (a : ℕ) → 8 ≤ length (drop a bits ++ replicate 8 0)
+pub padded-length : (bits : List ℕ) (a : ℕ) → 8 ≤ length (drop a bits ++ replicate 8 0)
 padded-length bits a = rw (length-append (drop a bits) (replicate 8 0), length-replicate {A = ℕ} 8 0) (omega arith)
 
 -- one bit more of a byte

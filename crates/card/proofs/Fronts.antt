@@ -33,31 +33,31 @@ number-bit vs k h =
 
 -- ---- the fronts of a card
 
-unfoldable front1 : Card → List ℕ
+unfoldable pub front1 : Card → List ℕ
 front1 k = bitsOf 4 1
 
-unfoldable front2 : Card → List ℕ
+unfoldable pub front2 : Card → List ℕ
 front2 k = front1 k ++ bitsOf 1 (cond (k .packed) 1 0)
 
-unfoldable front3 : Card → List ℕ
+unfoldable pub front3 : Card → List ℕ
 front3 k = front2 k ++ bitsOf 6 (k .n)
 
-unfoldable front4 : Card → List ℕ
+unfoldable pub front4 : Card → List ℕ
 front4 k = front3 k ++ bitsOf 6 (k .m)
 
-unfoldable front5 : Card → List ℕ
+unfoldable pub front5 : Card → List ℕ
 front5 k = front4 k ++ bitsOf 6 (length (k .words))
 
-unfoldable front6 : Card → List ℕ
+unfoldable pub front6 : Card → List ℕ
 front6 k = front5 k ++ bitsOfAll 16 (k .words)
 
-unfoldable front7 : Card → List ℕ
+unfoldable pub front7 : Card → List ℕ
 front7 k = front6 k ++ bitsOf 20 (k .maxIter)
 
-unfoldable front8 : Card → List ℕ
+unfoldable pub front8 : Card → List ℕ
 front8 k = front7 k ++ bitsOf 7 (k .sweepLimit)
 
-unfoldable front9 : Card → List ℕ
+unfoldable pub front9 : Card → List ℕ
 front9 k = front8 k ++ bitsOfAll 64 (k .numbers)
 
 length1 : (k : Card) → length (front1 k) ≡ 4
@@ -96,7 +96,7 @@ length9 : (k : Card) → length (front9 k) ≡ 23 + 16 * length (k .words) + 20 
 unfolding front9
 length9 k = rw (length-append (front8 k) (bitsOfAll 64 (k .numbers)), length8 k, all-length 64 (k .numbers))
 
-card-is : (k : Card) → cardBits k ≡ front9 k
+pub card-is : (k : Card) → cardBits k ≡ front9 k
 unfolding cardBits front1 front2 front3 front4 front5 front6 front7 front8 front9
 card-is k = refl
 

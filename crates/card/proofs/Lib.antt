@@ -8,3 +8,5 @@ pub mod Outcome
 pub mod Fronts
 pub mod Bytes
 pub mod Writing
+pub mod Values
+pub mod Back

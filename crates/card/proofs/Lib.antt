@@ -10,3 +10,4 @@ pub mod Bytes
 pub mod Writing
 pub mod Values
 pub mod Back
+pub mod RoundTrip

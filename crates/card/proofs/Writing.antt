@@ -12,7 +12,7 @@ use Rattle.card.specs.declared.Written.the-variants.{No, Bytes}
 use Rattle.card.proofs.Bytes.{bytes-of-length}
 use Rattle.card.proofs.Fronts.{card-length}
 
-written-is : (k : Card) → writtenCard k ≡ bytesOf (bytesFor (length (cardBits k))) (cardBits k)
+pub written-is : (k : Card) → writtenCard k ≡ bytesOf (bytesFor (length (cardBits k))) (cardBits k)
 unfolding writtenCard
 written-is k = refl
 

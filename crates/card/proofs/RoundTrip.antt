@@ -11,12 +11,15 @@ use borrow.Author.Tests.{eqb-true, eqb-false}
 use Rattle.card.specs.Card.{bitsOfBytes, Card, read, readCard, numberCount, bytesFor, bytesOf, cardBits, writtenCard}
 use Rattle.card.specs.Fields.{fieldAt, fieldsAt, bitCount, cardAt}
 use Rattle.card.specs.Outcome.{answerOf, ReadOutcome, WriteOutcome}
+use Rattle.card.specs.RoundTrip.{AreBytes, Fits}
 use Rattle.card.specs.declared.CardRead.{CardRead}
 use Rattle.card.specs.declared.Written.{Written}
 use Rattle.card.proofs.Bits.{bits-length, fields-length}
 use Rattle.card.proofs.Binary.{bytes-binary, field-below}
 use Rattle.card.proofs.Found.{Found, found-at}
-use Rattle.card.proofs.Back.{Says, bits-said, AreBytes, same-bytes, bytes-back, cut-same, bytes-needed}
+use Rattle.card.proofs.Back.{Says, bits-said, same-bytes, bytes-back, cut-same, bytes-needed}
+use Rattle.card.proofs.Forth.{read-again}
+use Rattle.card.proofs.Longer.{read-short-of}
 use Rattle.card.proofs.Writing.{written-is}
 
 -- ---- any two outcomes that a contract allows coincide
@@ -58,7 +61,8 @@ module _ (bytes : List ℕ) (n m : ℕ) (found : Found bytes n m) where
         max-iter-said = rw count;
         sweep-limit-said = rw count;
         numbers-said = rw (count, numbers);
-        inside = rw (count, numbers) (found .inside) }
+        inside = rw (count, numbers) (found .inside);
+      }
 
   total-is : 23 + 16 * length ((cardAt n m (bitsOfBytes bytes)) .words) + 20 + 7 + 64 * length ((cardAt n m (bitsOfBytes bytes)) .numbers) ≡ bitCount n m (bitsOfBytes bytes)
   unfolding cardAt bitCount
@@ -85,3 +89,13 @@ read-then-written-is-the-same bytes k below e =
     let m = fieldAt 11 6 (bitsOfBytes bytes) in
     let is : k ≡ cardAt n m (bitsOfBytes bytes) = cc (found .is) in
     ap writtenCard is ∙ same-card bytes n m found below
+
+-- ---- and the other way
+
+pub written-then-read-is-the-same : (k : Card) → Fits k → readCard (writtenCard k) ≡ read k
+written-then-read-is-the-same k fits = read-again k fits
+
+-- ---- The largest card has 8861 bytes: of a longer file, one byte more is enough to judge it.
+
+pub longer-than-any-card : (bytes : List ℕ) → 8862 ≤ length bytes → readCard (take 8862 bytes) ≡ readCard bytes
+longer-than-any-card bytes h = read-short-of bytes h

@@ -1,4 +1,4 @@
--- `card::reading_of` meets its contract: the judgements in order.
+-- `card::reader::reading_of` meets its contract: the judgements in order.
 use borrow.Author.Needs.{needs}
 use native.Mathlib.Omega.{arith}
 use Prim.Native.Nat.{_≤_, _<_}
@@ -6,8 +6,8 @@ use mathlib.Core.Path.{_≡_, refl, sym, ap, _∙_}
 use Rattle.card.specs.Card.{bitsOfBytes}
 use Rattle.card.specs.Outcome.{answerOf}
 use Rattle.card.proofs.Front.{no-edition, wrong-edition, no-n, large-n, no-m, large-m, sizes-read}
-use Rattle.card.proofs.reading_of.Statement.{statement}
-use Rattle.card.proofs.reading_of.Tie as tie
+use Rattle.card.proofs.reader.reading_of.Statement.{statement}
+use Rattle.card.proofs.reader.reading_of.Tie as tie
 
 returns : tie.Need-returns
 returns c =

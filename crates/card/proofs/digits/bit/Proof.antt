@@ -1,4 +1,4 @@
--- `card::bit` meets its contract.
+-- `card::digits::bit` meets its contract.
 use borrow.Author.Needs.{needs}
 use native.Mathlib.Omega.{arith}
 use native.Mathlib.Nat.{one-le-pow}
@@ -7,8 +7,8 @@ use mathlib.Core.Path.{_≡_, refl, sym, ap, _∙_}
 use lib.ListN.{length, getD, List·getD-eq-default}
 use Rattle.card.specs.Card.{bitsOfBytes}
 use Rattle.card.proofs.Bits.{bits-length, byte-bit}
-use Rattle.card.proofs.bit.Statement.{statement}
-use Rattle.card.proofs.bit.Tie as tie
+use Rattle.card.proofs.digits.bit.Statement.{statement}
+use Rattle.card.proofs.digits.bit.Tie as tie
 
 sub-power : tie.Need-sub-power
 sub-power c = search needs

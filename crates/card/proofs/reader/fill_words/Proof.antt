@@ -1,4 +1,4 @@
--- `card::fill_numbers` meets its contract: the front is read, the rest is as it was.
+-- `card::reader::fill_words` meets its contract: the front is read, the rest is as it was.
 use borrow.Author.Needs.{needs}
 use native.Mathlib.Omega.{arith}
 use Prim.Native.Nat.{ℕ, _+_, _-_, _*_, _≤_, _<_}
@@ -8,14 +8,14 @@ use lib.ListN.{length, drop, set, length-set}
 use Rattle.card.specs.Card.{bitsOfBytes}
 use Rattle.card.specs.Fields.{fieldsAt}
 use Rattle.card.proofs.Bits.{filled}
-use Rattle.card.proofs.fill_numbers.Statement.{statement}
-use Rattle.card.proofs.fill_numbers.Tie as tie
+use Rattle.card.proofs.reader.fill_words.Statement.{statement}
+use Rattle.card.proofs.reader.fill_words.Tie as tie
 
 abbrev Inv-loop : tie.InvT-loop
-Inv-loop bytes at numbers₀ count i₀ numbers i = (numbers ≡ fieldsAt i at 64 (bitsOfBytes bytes) ++ drop i numbers₀) × (length numbers ≡ length numbers₀) × (i ≤ count)
+Inv-loop bytes words₀ count i₀ words i = (words ≡ fieldsAt i 23 16 (bitsOfBytes bytes) ++ drop i words₀) × (length words ≡ length words₀) × (i ≤ count)
 
 abbrev μ-loop : tie.MeasureT-loop
-μ-loop bytes at numbers₀ count i₀ numbers i = count - i
+μ-loop bytes words₀ count i₀ words i = count - i
 
 loop-holds : tie.Need-loop-holds Inv-loop μ-loop
 unfolding fieldsAt
@@ -30,11 +30,14 @@ add-field c = search needs
 field-requires : tie.Need-field-requires Inv-loop μ-loop
 field-requires c κs = search needs
 
-mul-numbers : tie.Need-mul-numbers Inv-loop μ-loop
-mul-numbers c = search needs
+cast-words : tie.Need-cast-words Inv-loop μ-loop
+cast-words c = search needs
 
-slice-write-numbers : tie.Need-slice-write-numbers Inv-loop μ-loop
-slice-write-numbers c = search needs
+mul-words : tie.Need-mul-words Inv-loop μ-loop
+mul-words c = search needs
+
+slice-write-words : tie.Need-slice-write-words Inv-loop μ-loop
+slice-write-words c = search needs
 
 add-i : tie.Need-add-i Inv-loop μ-loop
 add-i c = search needs
@@ -46,7 +49,7 @@ loop-again : tie.Need-loop-again Inv-loop μ-loop
 loop-again c =
     let l = c .before .before .loop in
     let a = c .before .before .before .before .before .args in
-    (filled (l .i) (a .at) 64 (bitsOfBytes (a .bytes .now)) (a .numbers .now) (l .numbers) (c .field .result) (l .inv .0) (omega arith) (c .field .ensures .0), rw (length-set) (l .inv .1), omega arith)
+    (filled (l .i) 23 16 (bitsOfBytes (a .bytes .now)) (a .words .now) (l .words) (c .field .result) (l .inv .0) (omega arith) (c .field .ensures .0), rw (length-set) (l .inv .1), omega arith)
 
 same-length : tie.Need-same-length Inv-loop μ-loop
 same-length c = search needs
@@ -56,10 +59,10 @@ returns c =
     let l = c .before .loop in
     let a = c .before .before .before .before .args in
     let e : l .i ≡ a .count = omega arith in
-    l .inv .0 ∙ ap (λ (k : ℕ). fieldsAt k (a .at) 64 (bitsOfBytes (a .bytes .now)) ++ drop k (a .numbers .now)) e
+    l .inv .0 ∙ ap (λ (k : ℕ). fieldsAt k 23 16 (bitsOfBytes (a .bytes .now)) ++ drop k (a .words .now)) e
 
-pub fill-numbers-spec : {M : Type 1} → statement M
-fill-numbers-spec =
+pub fill-words-spec : {M : Type 1} → statement M
+fill-words-spec =
     tie.close
     (tie.spec
     Inv-loop
@@ -68,8 +71,9 @@ fill-numbers-spec =
     mul-field
     add-field
     field-requires
-    mul-numbers
-    slice-write-numbers
+    cast-words
+    mul-words
+    slice-write-words
     add-i
     loop-less
     loop-again

@@ -1,4 +1,4 @@
--- `card::read_card` meets its contract.
+-- `card::reader::read_card` meets its contract.
 use borrow.Author.Needs.{needs}
 use native.Mathlib.Omega.{arith}
 use Prim.Native.Nat.{ℕ, _+_, _*_, _≤_, _<_}
@@ -11,8 +11,8 @@ use Rattle.card.specs.Outcome.{answerOf}
 use Rattle.card.specs.declared.CardRead.the-variants.{Read}
 use Rattle.card.proofs.Found.{n-most, m-most, count-most, all-inside}
 use Rattle.card.proofs.Outcome.{refused-words, refused-numbers, read-no, read-fault, read-done}
-use Rattle.card.proofs.read_card.Statement.{statement}
-use Rattle.card.proofs.read_card.Tie as tie
+use Rattle.card.proofs.reader.read_card.Statement.{statement}
+use Rattle.card.proofs.reader.read_card.Tie as tie
 
 returns : tie.Need-returns
 returns c =

@@ -1,4 +1,4 @@
--- `card::write_bytes` meets its contract: the front is written, the rest is as it was.
+-- `card::writer::write_bytes` meets its contract: the front is written, the rest is as it was.
 use borrow.Author.Needs.{needs}
 use native.Mathlib.Omega.{arith}
 use Prim.Native.Nat.{ℕ, _+_, _-_, _*_, _≤_, _<_}
@@ -8,8 +8,8 @@ use lib.ListN.{length, drop, set, length-set}
 use Rattle.card.specs.Card.{bytesOf, cardBits}
 use Rattle.card.specs.Outcome.{cardOf}
 use Rattle.card.proofs.Bytes.{byte-written}
-use Rattle.card.proofs.write_bytes.Statement.{statement}
-use Rattle.card.proofs.write_bytes.Tie as tie
+use Rattle.card.proofs.writer.write_bytes.Statement.{statement}
+use Rattle.card.proofs.writer.write_bytes.Tie as tie
 
 abbrev Inv-loop : tie.InvT-loop
 Inv-loop packed n m words max-iter sweep-limit numbers bytes₀ count i₀ bytes i = (bytes ≡ bytesOf i (cardBits (cardOf packed n m words max-iter sweep-limit numbers)) ++ drop i bytes₀) × (length bytes ≡ length bytes₀) × (i ≤ count)

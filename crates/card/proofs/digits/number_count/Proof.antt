@@ -1,11 +1,11 @@
--- `card::number_count` meets its contract.
+-- `card::digits::number_count` meets its contract.
 use borrow.Author.Needs.{needs}
 use native.Mathlib.Omega.{arith}
 use Prim.Native.Nat.{ℕ, _+_, _-_, _*_, _/_, _≤_, _<_}
 use mathlib.Core.Path.{_≡_, refl, sym, ap, _∙_}
 use Rattle.card.proofs.Counts.{triangle-most, product-most}
-use Rattle.card.proofs.number_count.Statement.{statement}
-use Rattle.card.proofs.number_count.Tie as tie
+use Rattle.card.proofs.digits.number_count.Statement.{statement}
+use Rattle.card.proofs.digits.number_count.Tie as tie
 
 add-result : tie.Need-add-result
 add-result c = search needs

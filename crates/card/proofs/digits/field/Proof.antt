@@ -1,4 +1,4 @@
--- `card::field` meets its contract: after k bits it is the field of that width.
+-- `card::digits::field` meets its contract: after k bits it is the field of that width.
 use borrow.Author.Needs.{needs}
 use native.Mathlib.Omega.{arith}
 use native.Mathlib.Numerals.{add-one}
@@ -9,8 +9,8 @@ use lib.ListN.{length, getD}
 use Rattle.card.specs.Card.{bitsOfBytes}
 use Rattle.card.specs.Fields.{fieldAt}
 use Rattle.card.proofs.Bits.{bits-length, field-none, field-more, bit-room, bit-below}
-use Rattle.card.proofs.field.Statement.{statement}
-use Rattle.card.proofs.field.Tie as tie
+use Rattle.card.proofs.digits.field.Statement.{statement}
+use Rattle.card.proofs.digits.field.Tie as tie
 
 abbrev Inv-loop : tie.InvT-loop
 Inv-loop bytes at width v₀ k₀ v k = (v ≡ fieldAt at k (bitsOfBytes bytes)) × (v < 2 ^ k) × (k ≤ width)

@@ -1,4 +1,4 @@
--- `card::card_byte` meets its contract: after k bits it is the field of that width.
+-- `card::writer::card_byte` meets its contract: after k bits it is the field of that width.
 use borrow.Author.Needs.{needs}
 use native.Mathlib.Omega.{arith}
 use Prim.Native.Nat.{ℕ, _+_, _-_, _*_, _^_, _≤_, _<_}
@@ -10,8 +10,8 @@ use Rattle.card.specs.Fields.{fieldAt, byteAt}
 use Rattle.card.specs.Outcome.{cardOf}
 use Rattle.card.proofs.Bits.{field-none, bit-room, bit-below}
 use Rattle.card.proofs.Bytes.{byte-more}
-use Rattle.card.proofs.card_byte.Statement.{statement}
-use Rattle.card.proofs.card_byte.Tie as tie
+use Rattle.card.proofs.writer.card_byte.Statement.{statement}
+use Rattle.card.proofs.writer.card_byte.Tie as tie
 
 abbrev Inv-loop : tie.InvT-loop
 Inv-loop packed n m words max-iter sweep-limit numbers i v₀ k₀ v k = (v ≡ fieldAt 0 k (drop (8 * i) (cardBits (cardOf packed n m words max-iter sweep-limit numbers)) ++ replicate 8 0)) × (v < 2 ^ k) × (k ≤ 8)

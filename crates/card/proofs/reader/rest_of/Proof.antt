@@ -1,4 +1,4 @@
--- `card::rest_of` meets its contract: all fields whole, then the padding, then bytes left over.
+-- `card::reader::rest_of` meets its contract: all fields whole, then the padding, then bytes left over.
 use borrow.Author.Needs.{needs}
 use native.Mathlib.Omega.{arith}
 use Prim.Native.Nat.{_≤_, _<_}
@@ -8,8 +8,8 @@ use Rattle.card.specs.Card.{bitsOfBytes}
 use Rattle.card.specs.Outcome.{answerOf}
 use Rattle.card.proofs.Bits.{bits-length}
 use Rattle.card.proofs.Rest.{rest-short, rest-padding, rest-more, rest-whole, total-is, answer-is}
-use Rattle.card.proofs.rest_of.Statement.{statement}
-use Rattle.card.proofs.rest_of.Tie as tie
+use Rattle.card.proofs.reader.rest_of.Statement.{statement}
+use Rattle.card.proofs.reader.rest_of.Tie as tie
 
 field-requires : tie.Need-field-requires
 field-requires c κs = search needs

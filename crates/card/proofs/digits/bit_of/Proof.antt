@@ -1,12 +1,12 @@
--- `card::bit_of` meets its contract.
+-- `card::digits::bit_of` meets its contract.
 use borrow.Author.Needs.{needs}
 use native.Mathlib.Omega.{arith}
 use native.Mathlib.Nat.{one-le-pow}
 use Prim.Native.Nat.{ℕ, _-_, _/_, _%_, _^_, _≤_, _<_}
 use mathlib.Core.Path.{_≡_, refl, sym, ap, _∙_}
 use Rattle.card.proofs.Bits.{bit-of}
-use Rattle.card.proofs.bit_of.Statement.{statement}
-use Rattle.card.proofs.bit_of.Tie as tie
+use Rattle.card.proofs.digits.bit_of.Statement.{statement}
+use Rattle.card.proofs.digits.bit_of.Tie as tie
 
 sub-power : tie.Need-sub-power
 sub-power c = search needs

@@ -1,12 +1,12 @@
--- `card::write_card` meets its contract: the tests in order, then the bytes.
+-- `card::writer::write_card` meets its contract: the tests in order, then the bytes.
 use borrow.Author.Needs.{needs}
 use native.Mathlib.Omega.{arith}
 use Prim.Native.Nat.{ℕ, _+_, _*_, _≤_, _<_}
 use mathlib.Core.Path.{_≡_, refl, sym, ap, _∙_}
 use Rattle.card.specs.Outcome.{cardOf}
 use Rattle.card.proofs.Writing.{no-n, no-m, no-words, no-max-iter, no-sweep-limit, no-numbers, no-room, written}
-use Rattle.card.proofs.write_card.Statement.{statement}
-use Rattle.card.proofs.write_card.Tie as tie
+use Rattle.card.proofs.writer.write_card.Statement.{statement}
+use Rattle.card.proofs.writer.write_card.Tie as tie
 
 returns : tie.Need-returns
 returns c =

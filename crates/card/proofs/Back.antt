@@ -6,7 +6,7 @@ use mathlib.Core.Path.{_≡_, refl, sym, ap, _∙_}
 use mathlib.Core.Bool.{Bool, true, false, cond}
 use mathlib.Core.List.{List, [], _∷_, _++_}
 use lib.Dec.{ltb, eqb}
-use lib.ListN.{length, take, drop, getD, replicate, length-append, length-drop, length-replicate, List·getD-eq-default}
+use lib.ListN.{length, take, drop, getD, replicate, length-drop, List·getD-eq-default}
 use lib.Seq.{take-add, take-length, length-take-le, getD-take, getD-drop, ext-getD}
 use borrow.Author.Tests.{ltb-true, ltb-false, eqb-true, ne-eqb}
 use Rattle.card.specs.Card.{bitsOf, bitsOfAll, bitsOfBytes, value, allZero, Card, bytesFor, bytesOf, cardBits}

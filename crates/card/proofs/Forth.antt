@@ -1,15 +1,15 @@
 -- A card that is written, read again: the bytes have its bits and a padding of zeros, and each field is read as it was.
 use Prim.Native.Nat.{ℕ, zero, suc, _+_, _-_, _*_, _/_, _%_, _^_, _≤_, _<_}
-use native.Mathlib.Nat.{zero-add, mul-suc, mod-eq-of-lt}
+use native.Mathlib.Nat.{mul-suc, mod-eq-of-lt}
 use native.Mathlib.Omega.{arith}
 use mathlib.Core.Path.{_≡_, refl, sym, ap, _∙_}
 use mathlib.Core.Bool.{Bool, true, false, cond}
 use mathlib.Core.List.{List, [], _∷_, _++_, append-assoc}
-use lib.Dec.{ltb, eqb, leb}
+use lib.Dec.{ltb, eqb}
 use lib.ListN.{length, take, drop, getD, replicate, length-append, length-replicate, List·getD-append, List·getD-eq-default}
 use lib.Seq.{take-all, take-at, drop-at, drop-drop, getD-take, getD-append-add, ext-getD}
 use borrow.Author.Tests.{ltb-true, ltb-false, le-leb, eq-eqb}
-use Rattle.card.specs.Card.{bitsOf, bitsOfAll, bitsOfBytes, valueFrom, allZero, Card, Reading, fault, read, numberCount, taken, takenAll, closed, readBits, readCard, bytesFor, bytesOf, cardBits, writtenCard}
+use Rattle.card.specs.Card.{bitsOf, bitsOfAll, bitsOfBytes, allZero, Card, Reading, fault, read, numberCount, taken, takenAll, closed, readBits, readCard, bytesFor, bytesOf, cardBits, writtenCard}
 use Rattle.card.specs.Fields.{fieldAt, byteAt}
 use Rattle.card.specs.RoundTrip.{Fits}
 use Rattle.card.proofs.Bits.{bitsOf-length, bits-length, bit-of, byte-bit}

@@ -1,5 +1,5 @@
 -- A file that is longer than any card has the fault that its first 8862 bytes have.
-use Prim.Native.Nat.{ℕ, zero, suc, _+_, _-_, _*_, _/_, _≤_, _<_}
+use Prim.Native.Nat.{ℕ, zero, suc, _+_, _*_, _≤_}
 use native.Mathlib.Nat.{mul-suc}
 use native.Mathlib.Omega.{arith}
 use mathlib.Core.Path.{_≡_, refl, sym, ap, _∙_}
@@ -9,7 +9,7 @@ use lib.Dec.{leb, eqb}
 use lib.ListN.{length, take, drop, length-drop, take-append-drop}
 use lib.Seq.{length-take-le, take-nil, take-append-le, take-append-add, drop-append-le}
 use borrow.Author.Tests.{leb-true, le-leb, eqb-true, eqb-false}
-use Rattle.card.specs.Card.{bitsOf, bitsOfBytes, Reading, fault, readCard, numberCount, bytesFor}
+use Rattle.card.specs.Card.{bitsOf, bitsOfBytes, Reading, fault, readCard, numberCount}
 use Rattle.card.specs.Fields.{fieldAt, bitCount, restAt}
 use Rattle.card.proofs.Bits.{bitsOf-length, bits-length}
 use Rattle.card.proofs.Binary.{Binary, bytes-binary, take-binary, field-below}

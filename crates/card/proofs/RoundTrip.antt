@@ -1,14 +1,14 @@
 -- What a reader and a writer promise each other, and that their outcomes are each one thing.
-use Prim.Native.Nat.{ℕ, _+_, _-_, _*_, _/_, _%_, _^_, _≤_, _<_}
+use Prim.Native.Nat.{ℕ, _+_, _*_, _≤_, _<_}
 use native.Mathlib.Omega.{arith}
 use mathlib.Core.Path.{_≡_, refl, sym, ap, subst, _∙_}
 use mathlib.Core.Bool.{Bool, true, false, cond}
-use mathlib.Core.List.{List, [], _∷_, _++_}
+use mathlib.Core.List.{List}
 use lib.Dec.{leb, eqb}
-use lib.ListN.{length, take, drop, getD}
+use lib.ListN.{length, take}
 use lib.Seq.{length-take-le}
 use borrow.Author.Tests.{eqb-true, eqb-false, le-leb, lt-ltb, eq-eqb}
-use Rattle.card.specs.Card.{bitsOfBytes, Card, read, readCard, numberCount, bytesFor, bytesOf, cardBits, writtenCard}
+use Rattle.card.specs.Card.{bitsOfBytes, Card, read, readCard, numberCount, bytesFor, cardBits, writtenCard}
 use Rattle.card.specs.Fields.{fieldAt, fieldsAt, bitCount, cardAt}
 use Rattle.card.specs.Outcome.{answerOf, ReadOutcome, isWritten, WriteOutcome}
 use Rattle.card.specs.RoundTrip.{AreBytes, Fits}

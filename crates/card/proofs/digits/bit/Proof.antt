@@ -2,9 +2,9 @@
 use borrow.Author.Needs.{needs}
 use native.Mathlib.Omega.{arith}
 use native.Mathlib.Nat.{one-le-pow}
-use Prim.Native.Nat.{ℕ, _+_, _-_, _*_, _/_, _%_, _^_, _≤_, _<_}
-use mathlib.Core.Path.{_≡_, refl, sym, ap, _∙_}
-use lib.ListN.{length, getD, List·getD-eq-default}
+use Prim.Native.Nat.{_/_}
+use mathlib.Core.Path.{sym}
+use lib.ListN.{List·getD-eq-default}
 use Rattle.card.specs.Card.{bitsOfBytes}
 use Rattle.card.proofs.Bits.{bits-length, byte-bit}
 use Rattle.card.proofs.digits.bit.Statement.{statement}
@@ -23,7 +23,7 @@ cast-result : tie.Need-cast-result
 cast-result c = omega (arith, c .shared-slice-known2 .given (c .before .before .before .before .args .at / 8))
 
 div-result : tie.Need-div-result
-div-result c = rw (c .before .power .ensures) (one-le-pow (7 - c .before .before .before .before .args .at % 8) 2 (omega arith))
+div-result c = rw (c .before .power .ensures) (one-le-pow _ 2 (omega arith))
 
 returns : tie.Need-returns
 returns c =

@@ -2,8 +2,7 @@
 use borrow.Author.Needs.{needs}
 use native.Mathlib.Omega.{arith}
 use native.Mathlib.Nat.{one-le-pow}
-use Prim.Native.Nat.{ℕ, _-_, _/_, _%_, _^_, _≤_, _<_}
-use mathlib.Core.Path.{_≡_, refl, sym, ap, _∙_}
+use mathlib.Core.Path.{sym}
 use Rattle.card.proofs.Bits.{bit-of}
 use Rattle.card.proofs.digits.bit_of.Statement.{statement}
 use Rattle.card.proofs.digits.bit_of.Tie as tie
@@ -18,9 +17,7 @@ power-requires : tie.Need-power-requires
 power-requires c κs = search needs
 
 div-result : tie.Need-div-result
-div-result c =
-    let a = c .before .args in
-    rw (c .power .ensures) (one-le-pow (a .width - 1 - a .k) 2 (omega arith))
+div-result c = rw (c .power .ensures) (one-le-pow _ 2 (omega arith))
 
 returns : tie.Need-returns
 returns c =

@@ -1,8 +1,6 @@
 -- `card::digits::number_count` meets its contract.
 use borrow.Author.Needs.{needs}
 use native.Mathlib.Omega.{arith}
-use Prim.Native.Nat.{ℕ, _+_, _-_, _*_, _/_, _≤_, _<_}
-use mathlib.Core.Path.{_≡_, refl, sym, ap, _∙_}
 use Rattle.card.proofs.Counts.{triangle-most, product-most}
 use Rattle.card.proofs.digits.number_count.Statement.{statement}
 use Rattle.card.proofs.digits.number_count.Tie as tie

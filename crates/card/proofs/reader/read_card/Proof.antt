@@ -1,14 +1,7 @@
 -- `card::reader::read_card` meets its contract.
 use borrow.Author.Needs.{needs}
 use native.Mathlib.Omega.{arith}
-use Prim.Native.Nat.{ℕ, _+_, _*_, _≤_, _<_}
-use mathlib.Core.Path.{_≡_, refl, sym, ap, _∙_}
-use mathlib.Core.List.{List, _++_}
-use lib.ListN.{drop}
-use Rattle.card.specs.Card.{bitsOfBytes, readCard}
-use Rattle.card.specs.Fields.{fieldsAt}
-use Rattle.card.specs.Outcome.{answerOf}
-use Rattle.card.specs.declared.CardRead.the-variants.{Read}
+use mathlib.Core.Path.{sym, _∙_}
 use Rattle.card.proofs.Found.{n-most, m-most, count-most, all-inside}
 use Rattle.card.proofs.Outcome.{refused-words, refused-numbers, read-no, read-fault, read-done}
 use Rattle.card.proofs.reader.read_card.Statement.{statement}

@@ -1,10 +1,7 @@
 -- `card::reader::reading_of` meets its contract: the judgements in order.
 use borrow.Author.Needs.{needs}
 use native.Mathlib.Omega.{arith}
-use Prim.Native.Nat.{_≤_, _<_}
-use mathlib.Core.Path.{_≡_, refl, sym, ap, _∙_}
-use Rattle.card.specs.Card.{bitsOfBytes}
-use Rattle.card.specs.Outcome.{answerOf}
+use mathlib.Core.Path.{sym, _∙_}
 use Rattle.card.proofs.Front.{no-edition, wrong-edition, no-n, large-n, no-m, large-m, sizes-read}
 use Rattle.card.proofs.reader.reading_of.Statement.{statement}
 use Rattle.card.proofs.reader.reading_of.Tie as tie

@@ -1,11 +1,9 @@
 -- `card::reader::rest_of` meets its contract: all fields whole, then the padding, then bytes left over.
 use borrow.Author.Needs.{needs}
 use native.Mathlib.Omega.{arith}
-use Prim.Native.Nat.{_≤_, _<_}
-use mathlib.Core.Path.{_≡_, refl, sym, ap, _∙_}
+use mathlib.Core.Path.{sym, _∙_}
 use lib.ListN.{length}
 use Rattle.card.specs.Card.{bitsOfBytes}
-use Rattle.card.specs.Outcome.{answerOf}
 use Rattle.card.proofs.Bits.{bits-length}
 use Rattle.card.proofs.Rest.{rest-short, rest-padding, rest-more, rest-whole, total-is, answer-is}
 use Rattle.card.proofs.reader.rest_of.Statement.{statement}

@@ -1,8 +1,8 @@
 -- `card::writer::card_bit` meets its contract: a field for each stretch of places.
 use borrow.Author.Needs.{needs}
 use native.Mathlib.Omega.{arith}
-use Prim.Native.Nat.{ℕ, _-_, _/_, _≤_, _<_}
-use mathlib.Core.Path.{_≡_, refl, sym, ap, _∙_}
+use Prim.Native.Nat.{_-_, _/_}
+use mathlib.Core.Path.{sym, _∙_}
 use Rattle.card.specs.Outcome.{cardOf}
 use Rattle.card.proofs.Fronts.{edition-bit, flag-bit, n-bit, m-bit, count-bit, words-bit, max-iter-bit, sweep-limit-bit, numbers-bit, past-bit}
 use Rattle.card.proofs.writer.card_bit.Statement.{statement}

@@ -1,9 +1,9 @@
 -- `card::writer::card_byte` meets its contract: after k bits it is the field of that width.
 use borrow.Author.Needs.{needs}
 use native.Mathlib.Omega.{arith}
-use Prim.Native.Nat.{ℕ, _+_, _-_, _*_, _^_, _≤_, _<_}
-use mathlib.Core.Path.{_≡_, refl, sym, ap, _∙_}
-use mathlib.Core.List.{List, _++_}
+use Prim.Native.Nat.{ℕ, _-_, _*_, _^_, _≤_, _<_}
+use mathlib.Core.Path.{_≡_, sym, ap, _∙_}
+use mathlib.Core.List.{_++_}
 use lib.ListN.{drop, replicate}
 use Rattle.card.specs.Card.{cardBits}
 use Rattle.card.specs.Fields.{fieldAt, byteAt}

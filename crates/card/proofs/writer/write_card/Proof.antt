@@ -1,8 +1,6 @@
 -- `card::writer::write_card` meets its contract: the tests in order, then the bytes.
 use borrow.Author.Needs.{needs}
 use native.Mathlib.Omega.{arith}
-use Prim.Native.Nat.{ℕ, _+_, _*_, _≤_, _<_}
-use mathlib.Core.Path.{_≡_, refl, sym, ap, _∙_}
 use Rattle.card.specs.Outcome.{cardOf}
 use Rattle.card.proofs.Writing.{no-n, no-m, no-words, no-max-iter, no-sweep-limit, no-numbers, no-room, written}
 use Rattle.card.proofs.writer.write_card.Statement.{statement}
@@ -39,7 +37,7 @@ number-count-requires c κs = search needs
 returns-6 : tie.Need-returns-6
 returns-6 c =
     let a = c .before .before .before .before .before .before .before .before .before .before .args in
-    no-numbers (cardOf (a .packed) (a .n) (a .m) (a .words .now) (a .max-iter) (a .sweep-limit) (a .numbers .now)) (a .bytes .now) (omega arith) (omega arith) (omega arith) (omega arith) (omega arith) (λ e. c .if6 .taken (e ∙ sym (c .before .number-count .ensures .0)))
+    no-numbers (cardOf (a .packed) (a .n) (a .m) (a .words .now) (a .max-iter) (a .sweep-limit) (a .numbers .now)) (a .bytes .now) (omega arith) (omega arith) (omega arith) (omega arith) (omega arith) (λ e. omega (arith, c .before .number-count .ensures .0))
 
 mul-count : tie.Need-mul-count
 mul-count c = search needs
@@ -65,7 +63,7 @@ add-count-5 c = search needs
 returns-7 : tie.Need-returns-7
 returns-7 c =
     let a = c .before .before .before .before .before .before .before .before .before .before .before .args in
-    no-room (cardOf (a .packed) (a .n) (a .m) (a .words .now) (a .max-iter) (a .sweep-limit) (a .numbers .now)) (a .bytes .now) (omega arith) (omega arith) (omega arith) (omega arith) (omega arith) (c .before .if6 .left ∙ c .before .before .number-count .ensures .0) _ (omega arith) (c .if7 .taken)
+    no-room (cardOf (a .packed) (a .n) (a .m) (a .words .now) (a .max-iter) (a .sweep-limit) (a .numbers .now)) (a .bytes .now) (omega arith) (omega arith) (omega arith) (omega arith) (omega arith) (omega (arith, c .before .before .number-count .ensures .0)) (omega arith)
 
 write-bytes-requires : tie.Need-write-bytes-requires
 write-bytes-requires c κs = search needs
@@ -76,7 +74,7 @@ same-length c = search needs
 returns-8 : tie.Need-returns-8
 returns-8 c =
     let a = c .before .before .before .before .before .before .before .before .before .before .before .before .before .before .before .args in
-    written (cardOf (a .packed) (a .n) (a .m) (a .words .now) (a .max-iter) (a .sweep-limit) (a .numbers .now)) (a .bytes .now) (omega arith) (omega arith) (omega arith) (omega arith) (omega arith) (c .before .before .before .before .before .if6 .left ∙ c .before .before .before .before .before .before .number-count .ensures .0) _ (omega arith) (c .before .before .before .before .if7 .left) _ (c .before .before .write-bytes .ensures)
+    written (cardOf (a .packed) (a .n) (a .m) (a .words .now) (a .max-iter) (a .sweep-limit) (a .numbers .now)) (a .bytes .now) (omega arith) (omega arith) (omega arith) (omega arith) (omega arith) (omega (arith, c .before .before .before .before .before .before .number-count .ensures .0)) _ (omega arith) (omega arith) _ (c .before .before .write-bytes .ensures)
 
 pub write-card-spec : {M : Type 1} → statement M
 write-card-spec =

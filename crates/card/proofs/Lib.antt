@@ -1,0 +1,14 @@
+pub mod Bits
+pub mod Binary
+pub mod Places
+pub mod Rest
+pub mod Front
+pub mod Found
+pub mod Outcome
+pub mod Fronts
+pub mod Bytes
+pub mod Writing
+pub mod Values
+pub mod Back
+pub mod Forth
+pub mod RoundTrip

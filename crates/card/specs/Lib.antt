@@ -1,0 +1,3 @@
+pub mod Card
+pub mod Fields
+pub mod Outcome

@@ -1,5 +1,6 @@
 // What becomes of a card: its problem is solved, and the answer is written as text.
 mod lines;
+mod text;
 
 use card::CardRead;
 use rules::Answer;

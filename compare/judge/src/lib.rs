@@ -1,5 +1,6 @@
 //! The judge asks the original and writes down what it answers.
 
+pub mod card;
 pub mod cone_list;
 pub mod draw;
 pub mod families;

@@ -1,12 +1,13 @@
 //! judge lists SEED CRATES     writes the fixed lists into the folder of crates
 //! judge solve                 answers the problem on standard input
+//! judge card FILE             answers a card file
 //! judge survey SEED COUNT     draws problems and counts their endings
 
 use std::io::{read_to_string, stdin};
 use std::path::Path;
 use std::process::ExitCode;
 
-use judge::{lists, survey, text};
+use judge::{card, lists, survey, text};
 
 fn main() -> ExitCode {
     let arguments: Vec<String> = std::env::args().skip(1).collect();
@@ -30,11 +31,16 @@ fn run(arguments: &[&str]) -> Result<(), String> {
             print!("{}", text::write(&problem, &problem.solve()));
             Ok(())
         }
+        ["card", file] => {
+            let bytes = std::fs::read(file).map_err(|e| e.to_string())?;
+            print!("{}", card::told(&bytes).text());
+            Ok(())
+        }
         ["survey", seed, count] => {
             survey::survey(number(seed)?, number(count)? as usize);
             Ok(())
         }
-        _ => Err("lists SEED CRATES | solve | survey SEED COUNT".into()),
+        _ => Err("lists SEED CRATES | solve | card FILE | survey SEED COUNT".into()),
     }
 }
 

@@ -1,5 +1,6 @@
 //! The fixed lists.
 
+pub mod cards;
 pub mod cones;
 pub mod kernels;
 pub mod roots;
@@ -8,10 +9,11 @@ pub mod runs;
 use std::path::Path;
 
 /// Writes every list as the standard input of the program that replays it, a crate in `crates`, and
-/// prints what each holds.
+/// prints what each holds. Of the cards, the answers are the program's standard output.
 pub fn make(seed: u64, crates: &Path) -> std::io::Result<()> {
     roots::make(seed, &crates.join("replay_roots/stdin"))?;
     kernels::make(seed, &crates.join("replay_kernels/stdin"))?;
     cones::make(seed, &crates.join("replay_cones/stdin"))?;
-    runs::make(seed, &crates.join("replay_runs/stdin"))
+    runs::make(seed, &crates.join("replay_runs/stdin"))?;
+    cards::make(seed, &crates.join("replay_cards"), &crates.join("../cards"))
 }

@@ -87,7 +87,7 @@ fn carried(ending: &Ending) -> [u64; 3] {
 }
 
 /// The watched run must have changed nothing. A run that a sweep limit cut off has no like.
-fn same_over_plain(p: &Problem, answer: &Answer) {
+pub fn same_over_plain(p: &Problem, answer: &Answer) {
     if matches!(answer.ending, Ending::ConeFailure(_)) {
         return;
     }

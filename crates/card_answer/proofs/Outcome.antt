@@ -1,0 +1,144 @@
+-- How a card's answer is shown: its fields make its problem, and what was read is the card.
+use Prim.Native.Nat.{ℕ, zero, suc, _+_, _-_, _≤_, _<_}
+use native.Mathlib.Omega.{arith}
+use mathlib.Core.Path.{_≡_, refl, sym, ap, _∙_}
+use mathlib.Core.Bool.{Bool, true, false, cond}
+use mathlib.Core.List.{List, [], _∷_, _++_}
+use lib.Ieee.{Float}
+use lib.ListN.{length, take, drop, getD, replicate, length-replicate}
+use lib.Seq.{take-at, getD-drop}
+use borrow.Author.Tests.{le-leb}
+use Rattle.rules.specs.declared.Answer.{Answer}
+use Rattle.rules.specs.declared.SolverParam.{SolverParam}
+use Rattle.rules.specs.declared.Storage.{Storage}
+use Rattle.rules.specs.Arithmetic.{+0, tabulate}
+use Rattle.rules.specs.Problem.{problemOf}
+use Rattle.rules.specs.Refusals.{SolveOutcome}
+use Rattle.rules.proofs.Parts.{from-start}
+use Rattle.card.specs.Card.{Card, Reading, fault, read, numbersOfA, readCard}
+use Rattle.card.specs.Outcome.{answerOf, wordsAfter, numbersAfter, holdsAny, ReadOutcome}
+use Rattle.card.specs.declared.CardRead.{CardRead}
+use Rattle.card.specs.declared.CardRead.the-variants.{No, Fault as IsFault, Read}
+use Rattle.card_answer.specs.Answer.{numberAt, numbersAt, parametersOf, storageOf, problemFrom, toldOf, workAfter, leftOf, answeredOf, CardOutcome, FieldsOutcome}
+use Rattle.card_answer.specs.declared.Told.{Told}
+use Rattle.card_answer.specs.declared.Told.the-variants.{Fault, Answered}
+
+-- ---- the problem of a card's fields
+
+pub same-problem : (packed : Bool) (n m count : ℕ) (words : List ℕ) (maxIter sweepLimit : ℕ) (numbers : List ℕ) (storage : Storage) (c a b : List Float) (par : SolverParam) → count ≡ numbersOfA packed n m
+    → storage ≡ storageOf packed
+    → take n c ≡ numbersAt numbers 3 n
+    → take count a ≡ numbersAt numbers (3 + n) count
+    → take m b ≡ numbersAt numbers (3 + n + count) m
+    → par ≡ parametersOf maxIter sweepLimit numbers
+    → problemOf m n storage (take (n - 0) (drop 0 c)) (take (count - 0) (drop 0 a)) (take (m - 0) (drop 0 b)) words par ≡ problemFrom packed n m words maxIter sweepLimit numbers
+unfolding problemFrom
+same-problem packed n m count words maxIter sweepLimit numbers storage c a b par ek es ec ea eb ep =
+    rw (from-start n, from-start count, from-start m, ec, ea, eb, es, ep, ek)
+
+pub fields-outcome : (packed : Bool) (n m count : ℕ) (words : List ℕ) (maxIter sweepLimit : ℕ) (numbers : List ℕ) (work : List Float) (r : Answer) (work' cone' : List Float)
+    → SolveOutcome (problemFrom packed n m (take (count - 0) (drop 0 words)) maxIter sweepLimit numbers) work (replicate 56 +0) r work' cone'
+    → FieldsOutcome packed n m (take count words) maxIter sweepLimit numbers work (Answered n m (r .ending) (r .steps) (r .rotations)) work'
+fields-outcome packed n m count words maxIter sweepLimit numbers work r work' cone' o =
+    let p : SolveOutcome (problemFrom packed n m (take count words) maxIter sweepLimit numbers) work (replicate 56 +0) r work' cone' = rw (from-start count) at o in
+    record { answered = ap (λ (a : Answer). Answered n m (a .ending) (a .steps) (a .rotations)) (p .answered); work-left = p .work-left }
+
+-- ---- zeros after a card's numbers are never read
+
+abbrev zeroList : ℕ → List ℕ
+zeroList n = replicate n 0
+
+zero-at : (n i : ℕ) → getD (zeroList n) i 0 ≡ 0
+zero-at zero i = refl
+zero-at (suc n) zero = refl
+zero-at (suc n) (suc i) = zero-at n i
+
+before-zeros : (xs zs : List ℕ) (i : ℕ) → ((j : ℕ) → getD zs j 0 ≡ 0) → getD (xs ++ zs) i 0 ≡ getD xs i 0
+before-zeros [] zs i z = z i
+before-zeros (x ∷ xs) zs zero z = refl
+before-zeros (x ∷ xs) zs (suc i) z = before-zeros xs zs i z
+
+tabulate-same : (n : ℕ) (f g : ℕ → Float) → ((k : ℕ) → f k ≡ g k) → tabulate n f ≡ tabulate n g
+unfolding tabulate
+tabulate-same zero f g e = refl
+tabulate-same (suc n) f g e = rw (e 0, tabulate-same n (λ k. f (suc k)) (λ k. g (suc k)) (λ k. e (suc k)))
+
+module _ (xs ys : List ℕ) (same : (i : ℕ) → getD xs i 0 ≡ getD ys i 0) where
+  number-same : (k : ℕ) → numberAt xs k ≡ numberAt ys k
+  number-same k = rw (same k)
+
+  numbers-same : (from count : ℕ) → numbersAt xs from count ≡ numbersAt ys from count
+  unfolding numbersAt
+  numbers-same from count = tabulate-same count (λ k. numberAt xs (from + k)) (λ k. numberAt ys (from + k)) (λ k. number-same (from + k))
+
+  parameters-same : (maxIter sweepLimit : ℕ) → parametersOf maxIter sweepLimit xs ≡ parametersOf maxIter sweepLimit ys
+  unfolding parametersOf
+  parameters-same maxIter sweepLimit = rw (same 0, same 1, same 2)
+
+  problem-same : (packed : Bool) (n m : ℕ) (words : List ℕ) (maxIter sweepLimit : ℕ) → problemFrom packed n m words maxIter sweepLimit xs ≡ problemFrom packed n m words maxIter sweepLimit ys
+  unfolding problemFrom
+  problem-same packed n m words maxIter sweepLimit =
+      rw (numbers-same 3 n, numbers-same (3 + n) (numbersOfA packed n m), numbers-same (3 + n + numbersOfA packed n m) m, parameters-same maxIter sweepLimit)
+
+-- ---- what was read
+
+module _ (bytes words numbers : List ℕ) (answer : CardRead) (wordsLeft numbersLeft : List ℕ) (enough-words : 63 ≤ length words) (enough-numbers : 1091 ≤ length numbers)
+    (o : ReadOutcome bytes words numbers answer wordsLeft numbersLeft) where
+  enough : holdsAny words numbers ≡ true
+  enough = rw (le-leb 63 (length words) enough-words, le-leb 1091 (length numbers) enough-numbers)
+
+  pub reading : answerOf (readCard bytes) ≡ answer
+  reading = sym (rw enough at (o .answered))
+
+  pub words-read : wordsLeft ≡ wordsAfter (readCard bytes) words
+  words-read = rw enough at (o .words-left)
+
+  pub numbers-read : numbersLeft ≡ numbersAfter (readCard bytes) numbers
+  numbers-read = rw enough at (o .numbers-left)
+
+-- ---- the three ways to answer
+
+never-no : (r : Reading) → answerOf r ≡ No → {A : Type 0} → A
+never-no (fault f) e = let z : _≡_ {A = ℕ} 0 1 = cc in absurd (omega arith)
+never-no (read k) e = let z : _≡_ {A = ℕ} 0 1 = cc in absurd (omega arith)
+
+pub no-outcome : (bytes : List ℕ) (work : List Float) (told : Told) → answerOf (readCard bytes) ≡ No → CardOutcome bytes work told work
+no-outcome bytes work told e = never-no (readCard bytes) e
+
+of-fault : (r : Reading) (f : ℕ) (work : List Float) → answerOf r ≡ IsFault f → (Fault f ≡ toldOf r work) × (work ≡ workAfter r work)
+of-fault (fault g) f work e = (ap Fault (let same : f ≡ g = cc in same), refl)
+of-fault (read k) f work e = let z : _≡_ {A = ℕ} 0 1 = cc in absurd (omega arith)
+
+pub fault-outcome : (bytes : List ℕ) (work : List Float) (f : ℕ) → answerOf (readCard bytes) ≡ IsFault f → CardOutcome bytes work (Fault f) work
+fault-outcome bytes work f e =
+    let both = of-fault (readCard bytes) f work e in
+    record { answered = both .0; work-left = both .1 }
+
+of-card : (r : Reading) (packed : Bool) (n m count maxIter sweepLimit : ℕ) (zeroWords : List ℕ) (places : ℕ) (work : List Float) (told : Told) (work' : List Float)
+    → answerOf r ≡ Read packed n m count maxIter sweepLimit
+    → FieldsOutcome packed n m (take count (wordsAfter r zeroWords)) maxIter sweepLimit (numbersAfter r (zeroList places)) work told work'
+    → (told ≡ toldOf r work) × (work' ≡ workAfter r work)
+of-card (fault g) packed n m count maxIter sweepLimit zeroWords places work told work' e o = let z : _≡_ {A = ℕ} 0 1 = cc in absurd (omega arith)
+of-card (read k) packed n m count maxIter sweepLimit zeroWords places work told work' e o =
+    let is-packed : packed ≡ k .packed = cc in
+    let is-n : n ≡ k .n = cc in
+    let is-m : m ≡ k .m = cc in
+    let is-count : count ≡ length (k .words) = cc in
+    let is-max : maxIter ≡ k .maxIter = cc in
+    let is-limit : sweepLimit ≡ k .sweepLimit = cc in
+    let front : take count (k .words ++ drop (length (k .words)) zeroWords) ≡ k .words = take-at (k .words) (drop (length (k .words)) zeroWords) count (sym is-count) in
+    let rest : (j : ℕ) → getD (drop (length (k .numbers)) (zeroList places)) j 0 ≡ 0 = λ j. getD-drop (length (k .numbers)) (zeroList places) j 0 ∙ zero-at places (length (k .numbers) + j) in
+    let same = problem-same (k .numbers ++ drop (length (k .numbers)) (zeroList places)) (k .numbers) (λ i. before-zeros (k .numbers) (drop (length (k .numbers)) (zeroList places)) i rest) in
+    let as-card = rw (front, same packed n m (k .words) maxIter sweepLimit, is-packed, is-n, is-m, is-max, is-limit) at (o .answered) in
+    let left-as-card = rw (front, same packed n m (k .words) maxIter sweepLimit, is-packed, is-n, is-m, is-max, is-limit) at (o .work-left) in
+    (as-card, left-as-card)
+
+pub card-outcome : (bytes : List ℕ) (packed : Bool) (n m count maxIter sweepLimit : ℕ) (zeroWords : List ℕ) (places : ℕ) (wordsLeft numbersLeft : List ℕ) (work : List Float) (told : Told) (work' : List Float)
+    → answerOf (readCard bytes) ≡ Read packed n m count maxIter sweepLimit
+    → wordsLeft ≡ wordsAfter (readCard bytes) zeroWords
+    → numbersLeft ≡ numbersAfter (readCard bytes) (zeroList places)
+    → FieldsOutcome packed n m (take count wordsLeft) maxIter sweepLimit numbersLeft work told work'
+    → CardOutcome bytes work told work'
+card-outcome bytes packed n m count maxIter sweepLimit zeroWords places wordsLeft numbersLeft work told work' e ew en o =
+    let both = of-card (readCard bytes) packed n m count maxIter sweepLimit zeroWords places work told work' e (rw (ew, en) at o) in
+    record { answered = both .0; work-left = both .1 }

@@ -1,0 +1,100 @@
+-- `card_answer::solve_fields` meets its contract: the fields make the problem that is solved.
+use borrow.Author.Needs.{needs}
+use Rattle.card_answer.proofs.Outcome.{same-problem}
+use Rattle.card_answer.proofs.solve_fields.Statement.{statement}
+use Rattle.card_answer.proofs.solve_fields.Tie as tie
+
+stored-requires : tie.Need-stored-requires
+stored-requires c κs = search needs
+
+vector-requires : tie.Need-vector-requires
+vector-requires c κs = search needs
+
+add-matrix : tie.Need-add-matrix
+add-matrix c = search needs
+
+matrix-requires : tie.Need-matrix-requires
+matrix-requires c κs = search needs
+
+add-vector : tie.Need-add-vector
+add-vector c = search needs
+
+add-vector-2 : tie.Need-add-vector-2
+add-vector-2 c = search needs
+
+vector-requires-2 : tie.Need-vector-requires-2
+vector-requires-2 c κs = search needs
+
+parameters-requires : tie.Need-parameters-requires
+parameters-requires c κs = search needs
+
+storage-of-requires : tie.Need-storage-of-requires
+storage-of-requires c κs = search needs
+
+sub-solve : tie.Need-sub-solve
+sub-solve c = search needs
+
+part-solve-start : tie.Need-part-solve-start
+part-solve-start c = search needs
+
+part-solve-end : tie.Need-part-solve-end
+part-solve-end c = search needs
+
+sub-solve-2 : tie.Need-sub-solve-2
+sub-solve-2 c = search needs
+
+part-solve-start-2 : tie.Need-part-solve-start-2
+part-solve-start-2 c = search needs
+
+part-solve-end-2 : tie.Need-part-solve-end-2
+part-solve-end-2 c = search needs
+
+sub-solve-3 : tie.Need-sub-solve-3
+sub-solve-3 c = search needs
+
+part-solve-start-3 : tie.Need-part-solve-start-3
+part-solve-start-3 c = search needs
+
+part-solve-end-3 : tie.Need-part-solve-end-3
+part-solve-end-3 c = search needs
+
+solve-requires : tie.Need-solve-requires
+solve-requires c κs = search needs
+
+same-length : tie.Need-same-length
+same-length c = search needs
+
+same-length-2 : tie.Need-same-length-2
+same-length-2 c = search needs
+
+returns : tie.Need-returns
+returns c =
+    let a = c .before .before .before .before .before .before .before .before .before .before .before .before .before .before .before .before .before .before .before .before .before .before .before .args in
+    rw (same-problem (a .packed) (a .n) (a .m) _ (a .words .now) (a .max-iter) (a .sweep-limit) (a .numbers .now) _ _ _ _ _ (c .before .before .before .before .before .before .before .before .before .before .before .before .before .before .before .before .before .before .stored .ensures .0) (c .before .before .before .before .before .before .before .before .before .before .before .before .before .storage-of .ensures) (c .before .before .before .before .before .before .before .before .before .before .before .before .before .before .before .before .before .vector .ensures .1) (c .before .before .before .before .before .before .before .before .before .before .before .before .before .before .before .before .matrix .ensures .1) (c .before .before .before .before .before .before .before .before .before .before .before .before .before .before .before .vector2 .ensures .1) (c .before .before .before .before .before .before .before .before .before .before .before .before .before .before .parameters .ensures)) at (c .before .before .before .before .solve .ensures)
+
+pub solve-fields-spec : {M : Type 1} → statement M
+solve-fields-spec =
+    tie.close
+    (tie.spec
+    stored-requires
+    vector-requires
+    add-matrix
+    matrix-requires
+    add-vector
+    add-vector-2
+    vector-requires-2
+    parameters-requires
+    storage-of-requires
+    sub-solve
+    part-solve-start
+    part-solve-end
+    sub-solve-2
+    part-solve-start-2
+    part-solve-end-2
+    sub-solve-3
+    part-solve-start-3
+    part-solve-end-3
+    solve-requires
+    same-length
+    same-length-2
+    returns)

@@ -1,0 +1,85 @@
+-- Document 02, (i), "A problem file for the bench": the problem that a card says, and what becomes of it.
+use Prim.Native.Nat.{ℕ, _+_}
+use mathlib.Core.Path.{_≡_}
+use mathlib.Core.Bool.{Bool, cond}
+use mathlib.Core.List.{List}
+use lib.Ieee.{Float, binary64, ofBits}
+use lib.ListN.{getD, replicate}
+use Rattle.rules.specs.declared.SolverParam.{SolverParam}
+use Rattle.rules.specs.declared.Storage.{Storage}
+use Rattle.rules.specs.declared.Storage.the-variants.{Dense, Packed}
+use Rattle.rules.specs.Arithmetic.{+0, tabulate}
+use Rattle.rules.specs.Problem.{Problem, problemOf}
+use Rattle.rules.specs.Run.{Left}
+use Rattle.rules.specs.Refusals.{solved}
+use Rattle.card.specs.Card.{Card, Reading, fault, read, numbersOfA, readCard}
+use Rattle.card_answer.specs.declared.Told.{Told}
+use Rattle.card_answer.specs.declared.Told.the-variants.{Fault, Answered}
+
+-- ---- "eps_acc, eps_inf, eps_zero, c, A, b"
+
+-- the number that a card has at a place
+abbrev pub numberAt : List ℕ → ℕ → Float
+numberAt numbers k = ofBits binary64 (getD numbers k 0)
+
+-- so many from a place on
+unfoldable pub numbersAt : List ℕ → ℕ → ℕ → List Float
+unfolding tabulate
+numbersAt numbers from count = tabulate count (λ k. numberAt numbers (from + k))
+
+unfoldable pub parametersOf : ℕ → ℕ → List ℕ → SolverParam
+parametersOf maxIter sweepLimit numbers =
+    record {
+      «max_iter» = maxIter;
+      «eps_acc» = numberAt numbers 0;
+      «eps_inf» = numberAt numbers 1;
+      «eps_zero» = numberAt numbers 2;
+      «sweep_limit» = sweepLimit;
+    }
+
+abbrev pub storageOf : Bool → Storage
+storageOf packed = cond packed Packed Dense
+
+unfoldable pub problemFrom : Bool → ℕ → ℕ → List ℕ → ℕ → ℕ → List ℕ → Problem
+unfolding numbersAt parametersOf
+problemFrom packed n m words maxIter sweepLimit numbers =
+    problemOf m n (storageOf packed)
+    (numbersAt numbers 3 n)
+    (numbersAt numbers (3 + n) (numbersOfA packed n m))
+    (numbersAt numbers (3 + n + numbersOfA packed n m) m)
+    words
+    (parametersOf maxIter sweepLimit numbers)
+
+abbrev pub problemOfCard : Card → Problem
+problemOfCard k = problemFrom (k .packed) (k .n) (k .m) (k .words) (k .maxIter) (k .sweepLimit) (k .numbers)
+
+-- ---- what becomes of a card
+
+-- The places of cone work that are lent: d + d * d for the largest order d of a block of at most 32 places, 7.
+abbrev pub conePlaces : ℕ
+conePlaces = 56
+
+abbrev pub leftOf : Problem → List Float → Left
+leftOf p work = solved p work (replicate conePlaces +0)
+
+-- n and m, how the problem ends or why it is turned away, k and q
+abbrev pub answeredOf : ℕ → ℕ → Left → Told
+answeredOf n m left = Answered n m (left .answer .ending) (left .answer .steps) (left .answer .rotations)
+
+-- the card's fault, or its answer
+abbrev pub toldOf : Reading → List Float → Told
+toldOf (fault f) work = Fault f
+toldOf (read k) work = answeredOf (k .n) (k .m) (leftOf (problemOfCard k) work)
+
+abbrev pub workAfter : Reading → List Float → List Float
+workAfter (fault f) work = work
+workAfter (read k) work = leftOf (problemOfCard k) work .work
+
+pub record CardOutcome (bytes : List ℕ) (work : List Float) (told : Told) (work' : List Float) : Type 0 where
+  pub answered : told ≡ toldOf (readCard bytes) work
+  pub work-left : work' ≡ workAfter (readCard bytes) work
+
+-- the same of a card's fields
+pub record FieldsOutcome (packed : Bool) (n m : ℕ) (words : List ℕ) (maxIter sweepLimit : ℕ) (numbers : List ℕ) (work : List Float) (told : Told) (work' : List Float) : Type 0 where
+  pub answered : told ≡ answeredOf n m (leftOf (problemFrom packed n m words maxIter sweepLimit numbers) work)
+  pub work-left : work' ≡ leftOf (problemFrom packed n m words maxIter sweepLimit numbers) work .work

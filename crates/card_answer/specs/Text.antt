@@ -1,0 +1,104 @@
+-- Document 02, (i): "The program writes `Card N`, `Refused N`, or the ending's name, k and q, then x and y as 16 lowercase hex digits a line, any NaN as
+-- 7ff8000000000000." Text is bytes, in ASCII.
+use Prim.Native.Nat.{ℕ, _≤_, _<_}
+use mathlib.Core.Path.{_≡_}
+use mathlib.Core.List.{List, [], _∷_, _++_}
+use lib.Ieee.{Float, binary64, toBits}
+use lib.ListN.{length, take, replicate}
+use Rattle.io.specs.Digits.{digits, Fewest}
+use Rattle.rules.specs.declared.Ending.{Ending}
+use Rattle.rules.specs.declared.Ending.the-variants.{BadParam, TooLarge, InvalidOp, BadCone, NotFinite, WorkShortage, Converged, ExcessIter, ExcessIterUnscaled, Unbounded, Infeasible, ConeFailure}
+use Rattle.rules.specs.Arithmetic.{+0}
+use Rattle.rules.specs.Run.{solutionX, solutionY}
+use Rattle.rules.specs.Refusals.{numberOf}
+use Rattle.card.specs.Card.{Card, Reading, fault, read, readCard}
+use Rattle.card_answer.specs.Answer.{problemOfCard, leftOf}
+
+abbrev pub newline : List ℕ
+newline = 10 ∷ []
+
+abbrev pub space : List ℕ
+space = 32 ∷ []
+
+-- the decimal digits of a number, none too many
+pub record Decimal (n : ℕ) (text : List ℕ) : Type 0 where
+  pub places : ℕ
+  pub fewest : Fewest 10 1 n places
+  pub spelled : text ≡ digits 10 places n
+
+-- "16 lowercase hex digits a line"
+abbrev pub numberLine : Float → List ℕ
+numberLine x = digits 16 16 (toBits binary64 x) ++ newline
+
+unfoldable pub numberLines : List Float → List ℕ
+numberLines [] = []
+numberLines (x ∷ xs) = numberLine x ++ numberLines xs
+
+-- a word and a number on a line
+pub record Numbered (word : List ℕ) (n : ℕ) (text : List ℕ) : Type 0 where
+  pub number : List ℕ
+  pub is-number : Decimal n number
+  pub is : text ≡ word ++ number ++ newline
+
+-- "the ending's name, k and q, then x and y"; the name with a space after it
+pub record Ended (name : List ℕ) (k q : ℕ) (x y : List Float) (text : List ℕ) : Type 0 where
+  pub steps : List ℕ
+  pub rotations : List ℕ
+  pub is-steps : Decimal k steps
+  pub is-rotations : Decimal q rotations
+  pub is : text ≡ name ++ steps ++ space ++ rotations ++ newline ++ numberLines x ++ numberLines y
+
+-- "Card ", "Refused "
+abbrev pub card : List ℕ
+card = 67 ∷ 97 ∷ 114 ∷ 100 ∷ 32 ∷ []
+
+abbrev pub refused : List ℕ
+refused = 82 ∷ 101 ∷ 102 ∷ 117 ∷ 115 ∷ 101 ∷ 100 ∷ 32 ∷ []
+
+-- "Converged ", "ExcessIter ", "Unbounded ", "Infeasible ", "ConeFailure "
+abbrev pub converged : List ℕ
+converged = 67 ∷ 111 ∷ 110 ∷ 118 ∷ 101 ∷ 114 ∷ 103 ∷ 101 ∷ 100 ∷ 32 ∷ []
+
+abbrev pub excessIter : List ℕ
+excessIter = 69 ∷ 120 ∷ 99 ∷ 101 ∷ 115 ∷ 115 ∷ 73 ∷ 116 ∷ 101 ∷ 114 ∷ 32 ∷ []
+
+abbrev pub unbounded : List ℕ
+unbounded = 85 ∷ 110 ∷ 98 ∷ 111 ∷ 117 ∷ 110 ∷ 100 ∷ 101 ∷ 100 ∷ 32 ∷ []
+
+abbrev pub infeasible : List ℕ
+infeasible = 73 ∷ 110 ∷ 102 ∷ 101 ∷ 97 ∷ 115 ∷ 105 ∷ 98 ∷ 108 ∷ 101 ∷ 32 ∷ []
+
+abbrev pub coneFailure : List ℕ
+coneFailure = 67 ∷ 111 ∷ 110 ∷ 101 ∷ 70 ∷ 97 ∷ 105 ∷ 108 ∷ 117 ∷ 114 ∷ 101 ∷ 32 ∷ []
+
+abbrev pub AnswerText : Ending → ℕ → ℕ → List Float → List Float → List ℕ → Type 0
+AnswerText BadParam k q x y text = Numbered refused 1 text
+AnswerText TooLarge k q x y text = Numbered refused 2 text
+AnswerText InvalidOp k q x y text = Numbered refused 3 text
+AnswerText BadCone k q x y text = Numbered refused 4 text
+AnswerText NotFinite k q x y text = Numbered refused 5 text
+AnswerText WorkShortage k q x y text = Numbered refused 6 text
+AnswerText (Converged a b c) k q x y text = Ended converged k q x y text
+AnswerText (ExcessIter a b c) k q x y text = Ended excessIter k q x y text
+AnswerText (ExcessIterUnscaled a b) k q x y text = Ended excessIter k q x y text
+AnswerText (Unbounded a) k q x y text = Ended unbounded k q x y text
+AnswerText (Infeasible a) k q x y text = Ended infeasible k q x y text
+AnswerText (ConeFailure b) k q x y text = Ended coneFailure k q x y text
+
+-- The places of work that are lent: enough for n and m of 32.
+abbrev pub workPlaces : ℕ
+workPlaces = 518
+
+abbrev pub CardText : Reading → List ℕ → Type 0
+CardText (fault f) text = Numbered card f text
+CardText (read k) text =
+    let left = leftOf (problemOfCard k) (replicate workPlaces +0) in
+    AnswerText (left .answer .ending) (left .answer .steps) (left .answer .rotations) (solutionX (k .n) (left .work)) (solutionY (k .m) (k .n) (left .work)) text
+
+-- a buffer that holds the text of any card
+abbrev pub longest : ℕ
+longest = 1200
+
+pub record TextOutcome (bytes before : List ℕ) (count : ℕ) (after : List ℕ) : Type 0 where
+  pub too-short : length before < longest → (count ≡ 0) × (after ≡ before)
+  pub written : longest ≤ length before → CardText (readCard bytes) (take count after)

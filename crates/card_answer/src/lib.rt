@@ -1,0 +1,203 @@
+// What becomes of a card: its problem is solved, and the answer is written as text.
+mod lines;
+mod text;
+
+use card::CardRead;
+use rules::Answer;
+use rules::Cols;
+use rules::Ending;
+use rules::Rows;
+use rules::SolverParam;
+use rules::Storage;
+ghost use Prim.Native.Nat.{_+_, _≤_};
+ghost use mathlib.Core.Path.{_≡_};
+ghost use mathlib.Core.List.{_++_};
+ghost use lib.ListN.{length, drop, take};
+ghost use Rattle.rules.specs.Refusals.{SolveOutcome};
+ghost use Rattle.card.specs.Card.{numbersOfA};
+ghost use Rattle.card_answer.specs.Answer.{numbersAt, parametersOf, storageOf, problemFrom, FieldsOutcome, CardOutcome};
+
+pub use lines::write_answer;
+
+// The card's fault; or n and m, how its problem ended or why it was turned away, k and q.
+pub enum Told {
+    Fault(u8),
+    Answered(usize, usize, Ending, u64, u64),
+}
+
+// How many words and how many numbers a card may have.
+const WORDS: usize = 63;
+
+const NUMBERS: usize = 1091;
+
+// How many numbers c and b may have, and how many A.
+const LONG: usize = 32;
+
+const A_LONG: usize = 1024;
+
+// Enough cone work for any block of a card.
+const CONE_WORK: usize = 56;
+
+// Enough work for any card.
+pub const WORK: usize = 518;
+
+// Puts so many numbers of a card, from a place on, at the start of a vector.
+fn fill(numbers: &[u64], at: usize, out: &mut [f64], count: usize)
+    requires { ⌜ count ≤ length (now out) ⌝ }
+    requires { ⌜ at + count ≤ length (now numbers) ⌝ }
+    ensures { λ r. ⌜ now (out .exit) ≡ numbersAt (now (numbers .entry)) at count ++ drop count (now (out .entry)) ⌝ }
+{
+    for i in 0..count {
+        out[i] = patterns::number_of(numbers[at + i]);
+    }
+}
+
+// c or b.
+fn vector(numbers: &[u64], at: usize, count: usize) -> [f64; LONG]
+    requires { ⌜ count ≤ 32 ⌝ }
+    requires { ⌜ at + count ≤ length (now numbers) ⌝ }
+    ensures { λ r. ⌜ 32 ≡ length r ⌝ }
+    ensures { λ r. ⌜ take count r ≡ numbersAt (now (numbers .entry)) at count ⌝ }
+{
+    let mut space = [0.0; LONG];
+    fill(numbers, at, &mut space, count);
+    space
+}
+
+// A.
+fn matrix(numbers: &[u64], at: usize, count: usize) -> [f64; A_LONG]
+    requires { ⌜ count ≤ 1024 ⌝ }
+    requires { ⌜ at + count ≤ length (now numbers) ⌝ }
+    ensures { λ r. ⌜ 1024 ≡ length r ⌝ }
+    ensures { λ r. ⌜ take count r ≡ numbersAt (now (numbers .entry)) at count ⌝ }
+{
+    let mut space = [0.0; A_LONG];
+    fill(numbers, at, &mut space, count);
+    space
+}
+
+fn parameters(numbers: &[u64], max_iter: u64, sweep_limit: u64) -> SolverParam
+    requires { ⌜ 3 ≤ length (now numbers) ⌝ }
+    ensures { λ r. ⌜ r ≡ parametersOf «max_iter» «sweep_limit» (now (numbers .entry)) ⌝ }
+{
+    SolverParam {
+        max_iter,
+        eps_acc: patterns::number_of(numbers[0]),
+        eps_inf: patterns::number_of(numbers[1]),
+        eps_zero: patterns::number_of(numbers[2]),
+        sweep_limit,
+    }
+}
+
+fn storage_of(packed: bool) -> Storage
+    ensures { λ r. ⌜ r ≡ storageOf packed ⌝ }
+{
+    if packed { Storage::Packed } else { Storage::Dense }
+}
+
+// How many numbers A has.
+fn stored(packed: bool, n: usize, m: usize) -> usize
+    requires { ⌜ n ≤ 32 ⌝ }
+    requires { ⌜ m ≤ 32 ⌝ }
+    ensures value { λ r. ⌜ r ≡ numbersOfA packed n m ⌝ }
+    ensures bound { λ r. ⌜ r ≤ 1024 ⌝ }
+{
+    if packed {
+        return n * (n + 1) / 2;
+    }
+    m * n
+}
+
+// Solves the problem of these fields.
+fn solve_fields(
+    packed: bool,
+    n: usize,
+    m: usize,
+    words: &[u16],
+    max_iter: u64,
+    sweep_limit: u64,
+    numbers: &[u64],
+    work: &mut [f64],
+    cone_work: &mut [f64],
+) -> Answer
+    requires { ⌜ n ≤ 32 ⌝ }
+    requires { ⌜ m ≤ 32 ⌝ }
+    requires { ⌜ 1091 ≤ length (now numbers) ⌝ }
+    ensures { λ r. ⌜ SolveOutcome (problemFrom packed n m (now (words .entry)) «max_iter» «sweep_limit» (now (numbers .entry))) (now (work .entry)) (now («cone_work» .entry)) r (now (work .exit)) (now («cone_work» .exit)) ⌝ }
+{
+    let count = stored(packed, n, m);
+    let c = vector(numbers, 3, n);
+    let a = matrix(numbers, 3 + n, count);
+    let b = vector(numbers, 3 + n + count, m);
+    solver::solve(
+        parameters(numbers, max_iter, sweep_limit),
+        Rows(m),
+        Cols(n),
+        storage_of(packed),
+        &c[0..n],
+        &a[0..count],
+        &b[0..m],
+        words,
+        work,
+        cone_work,
+    )
+}
+
+// The answer to a card's fields, whose words are the first of a list.
+fn answer_fields(
+    packed: bool,
+    n: usize,
+    m: usize,
+    count: usize,
+    max_iter: u64,
+    sweep_limit: u64,
+    words: &[u16],
+    numbers: &[u64],
+    work: &mut [f64],
+) -> Told
+    requires { ⌜ n ≤ 32 ⌝ }
+    requires { ⌜ m ≤ 32 ⌝ }
+    requires { ⌜ count ≤ length (now words) ⌝ }
+    requires { ⌜ 1091 ≤ length (now numbers) ⌝ }
+    ensures { λ r. ⌜ FieldsOutcome packed n m (take count (now (words .entry))) «max_iter» «sweep_limit» (now (numbers .entry)) (now (work .entry)) r (now (work .exit)) ⌝ }
+{
+    let mut cone_work = [0.0; CONE_WORK];
+    let answer = solve_fields(
+        packed,
+        n,
+        m,
+        &words[0..count],
+        max_iter,
+        sweep_limit,
+        numbers,
+        work,
+        &mut cone_work,
+    );
+    let ending = answer.ending;
+    Told::Answered(n, m, ending, answer.steps, answer.rotations)
+}
+
+// Reads a card and solves its problem in the work that is lent.
+pub fn answer(bytes: &[u8], work: &mut [f64]) -> Told
+    ensures { λ r. ⌜ CardOutcome (now (bytes .entry)) (now (work .entry)) r (now (work .exit)) ⌝ }
+{
+    let mut words = [0u16; WORDS];
+    let mut numbers = [0u64; NUMBERS];
+    match card::read_card(bytes, &mut words, &mut numbers) {
+        CardRead::No => Told::Fault(0),
+        CardRead::Fault(f) => Told::Fault(f),
+        CardRead::Read(packed, n, m, count, max_iter, sweep_limit) => {
+            answer_fields(
+                packed,
+                n,
+                m,
+                count,
+                max_iter,
+                sweep_limit,
+                &words,
+                &numbers,
+                work,
+            )
+        }
+    }
+}

@@ -55,7 +55,3 @@ block-ruled p e = (rw e at (p .block-left), rw e at (p .work-left))
 
 pub product-refused : {fits : Bool} {ruled : Passed} {cone work : List Float} → fits ≡ false → ProductOutcome fits ruled cone work NoProduct cone work
 product-refused e = record { answered = rw e; cone-left = rw e; work-left = rw e }
-
-pub product-done : {fits : Bool} {ruled : Passed} {cone work : List Float} {a : Product} {x v : List Float} → fits ≡ true → a ≡ productAnswer (ruled .rotations) (ruled .failure)
-    → x ≡ ruled .cone → v ≡ ruled .work → ProductOutcome fits ruled cone work a x v
-product-done e is left left' = record { answered = rw e is; cone-left = rw e left; work-left = rw e left' }

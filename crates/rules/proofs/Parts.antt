@@ -31,11 +31,6 @@ drop-rest a e w h =
 
 -- ---- any part: it comes back new, and a part that shares no place with it stays
 
-part-in-front : (b k : ℕ) (u v : List Float) → b + k ≤ length u → part b k (u ++ v) ≡ part b k u
-part-in-front b k u v h =
-    let l : k ≤ length (drop b u) = rw length-drop (omega arith) in
-    rw (drop-append-le b u v (omega arith), take-append-le k (drop b u) v l)
-
 module _ (a e : ℕ) (w ys : List Float) (fits : a ≤ e) (inside : e ≤ length w) (as-many : length ys ≡ e - a) where
   front-length : length (take a w) ≡ a
   front-length = length-take-le a w (omega arith)
@@ -45,12 +40,6 @@ module _ (a e : ℕ) (w ys : List Float) (fits : a ≤ e) (inside : e ≤ length
 
   pub put-part : part a (e - a) (put a e w ys) ≡ ys
   put-part = rw (drop-at (take a w) (ys ++ drop (e - a) (drop a w)) a front-length) (take-at ys (drop (e - a) (drop a w)) (e - a) as-many)
-
-  pub part-before : (b k : ℕ) → b + k ≤ a → part b k (put a e w ys) ≡ part b k w
-  part-before b k h =
-      let l : b + k ≤ length (take a w) = rw front-length h in
-      let old : part b k (take a w ++ drop a w) ≡ part b k (take a w) = part-in-front b k (take a w) (drop a w) l in
-      part-in-front b k (take a w) (ys ++ drop (e - a) (drop a w)) l ∙ sym (rw (take-append-drop a w) at old)
 
   pub part-after : (b k : ℕ) → e ≤ b → part b k (put a e w ys) ≡ part b k w
   part-after b k h =

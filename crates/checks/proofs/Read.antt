@@ -1,5 +1,5 @@
 -- An eps_zero of -0 is read as +0.
-use mathlib.Core.Path.{_≡_, refl}
+use mathlib.Core.Path.{_≡_}
 use mathlib.Core.Bool.{true, false}
 use lib.Ieee.{eq}
 use Rattle.rules.specs.declared.SolverParam.{SolverParam}

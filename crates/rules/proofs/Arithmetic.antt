@@ -5,7 +5,7 @@ use native.Mathlib.Omega.{arith}
 use mathlib.Core.Path.{_≡_, refl, sym, _∙_, ap}
 use mathlib.Core.List.{List, [], _∷_}
 use lib.Ieee.{Float, nan}
-use lib.ListN.{length, getD, set}
+use lib.ListN.{length, set}
 use lib.Seq.{ext-getD}
 use Rattle.rules.specs.Arithmetic.{_+ᶠ_, at, sumFrom, eachTo, each}
 

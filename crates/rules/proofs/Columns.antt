@@ -1,7 +1,7 @@
 -- Laws of numbers stored by columns: where an entry stands, and that a list is what its entries are.
 use Prim.Native.Nat.{ℕ, zero, suc, _+_, _-_, _*_, _<_, _≤_}
 use native.Mathlib.Numerals.{add-one}
-use native.Mathlib.Nat.{mul-add, add-mul, suc-mul, zero-mul, mul-le-mul, mul-le-mul-right}
+use native.Mathlib.Nat.{suc-mul, zero-mul, mul-le-mul-right}
 use native.Mathlib.Omega.{arith}
 use mathlib.Core.Path.{_≡_, refl, sym, _∙_, ap}
 use mathlib.Core.Bool.{Bool, true, false}
@@ -14,7 +14,7 @@ use lib.Seq.{ext-getD, getD-append-add, getD-set-same, getD-set-other}
 use Rattle.rules.specs.Arithmetic.{at, tabulate, byColumns}
 use Rattle.rules.specs.Matrices.{triangle, place, entry}
 use Rattle.rules.specs.Jacobi.{packed, square, inPacked, inSquare, packedPlace}
-use Rattle.rules.proofs.Triangle.{triangle-more, triangle-grows, triangle-inside}
+use Rattle.rules.proofs.Triangle.{triangle-more, triangle-inside}
 
 -- ---- two cases
 

@@ -7,11 +7,11 @@ use lib.Pow.{pow-lt}
 use borrow.Author.Tests.{lt-ltb, le-ltb, ne-eqb}
 use mathlib.Core.Path.{_≡_, refl, sym, _∙_, ap}
 use mathlib.Core.Bool.{Bool, true, false, not, cond, _&&_, true≢false, false≢true}
-use lib.Dec.{T, ltb, eqb, eqb-refl, eqb→eq}
+use lib.Dec.{T, eqb, eqb-refl, eqb→eq}
 use lib.Ieee.{Float, nan, inf, fin, isNan, lt, eq, neg, fits, ofBits, binary64, up, down}
 use lib.Ieee.Bits.{is-true}
 use lib.Ieee.Fits.{up-pos}
-use Rattle.rules.specs.Helpers.{yielding, larger, smaller, magnitude}
+use Rattle.rules.specs.Helpers.{larger, smaller, magnitude}
 
 -- a number, and nothing else, equals itself
 pub equals-itself : (x : Float) → eq x x ≡ not (isNan x)

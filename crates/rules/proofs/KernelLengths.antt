@@ -20,11 +20,9 @@ use Rattle.rules.specs.Blocks.{places, totalPlaces}
 use Rattle.rules.specs.Jacobi.{Turning, Swept, isRotated, rotated, pairDone, rowDone, rowsDone, sweep, sweeps}
 use Rattle.rules.specs.Projections.{Projected, √2, projZero, projRPos, projSOC, halfTurn, projRotSOC, diagonalTimes, unit, projPSD, projBlock, blockWork}
 use Rattle.rules.specs.Product.{Passed, projAll, grouped, groupBlock, groupAll, coneWork}
-use Rattle.rules.specs.Step.{part}
 use Rattle.rules.specs.Prepare.{diagonal}
 use Rattle.rules.proofs.Arithmetic.{each-length}
 use Rattle.rules.proofs.Columns.{tabulate-length, packed-length, square-length}
-use Rattle.rules.proofs.Parts.{part-length}
 
 -- ---- vectors
 

@@ -1,6 +1,6 @@
 -- Laws of the matrix rules: where entries are stored, and what the tests of sizes say.
 use Prim.Native.Nat.{ℕ, zero, suc, _+_, _-_, _*_, _<_, _≤_}
-use native.Mathlib.Nat.{mul-comm, mul-add, add-mul, suc-mul, mul-le-mul, mul-le-mul-left, mul-le-mul-right, mul-zero, mul-suc}
+use native.Mathlib.Nat.{mul-comm, suc-mul, mul-le-mul, mul-le-mul-left, mul-le-mul-right, mul-zero, mul-suc}
 use native.Mathlib.Omega.{arith}
 use mathlib.Core.Path.{_≡_, refl, sym, ap, _∙_}
 use mathlib.Core.Bool.{Bool, true, false, cond, _&&_, false≢true}
@@ -20,7 +20,7 @@ use Rattle.rules.specs.Arithmetic.{_+ᶠ_, _*ᶠ_, +0, at}
 use Rattle.rules.specs.Matrices.{nRow, nCol, triangle, storedLength, place, entry, entries, flipped, colSum, product, transformed, width, height, storedFits, Stored, transformFits}
 use Rattle.rules.proofs.Arithmetic.{sum-none, sum-same, each-same}
 use Rattle.rules.proofs.Vectors.{abssum-of-part, abssum-of-rest}
-use Rattle.rules.proofs.Triangle.{triangle-more, triangle-grows, triangle-inside}
+use Rattle.rules.proofs.Triangle.{triangle-inside}
 
 -- ---- every entry is stored
 

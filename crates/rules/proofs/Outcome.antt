@@ -9,7 +9,7 @@ use Rattle.rules.specs.declared.Product.{Product}
 use Rattle.rules.specs.declared.Product.the-variants.{No as NoProduct}
 use Rattle.rules.specs.Outcome.{Outcome}
 use Rattle.rules.specs.Projections.{Projected, BlockOutcome, plain, answerOf}
-use Rattle.rules.specs.Product.{Passed, ProductOutcome, productAnswer}
+use Rattle.rules.specs.Product.{Passed, ProductOutcome}
 
 -- Any two outcomes that a contract allows coincide: the answer, and each place of the buffer.
 pub outcomes-coincide : {fits : Bool} {ruled kept : List Float} {a b : Bool} {x y : List Float} → Outcome fits ruled kept a x → Outcome fits ruled kept b y → (a ≡ b) × (x ≡ y)

@@ -1,5 +1,5 @@
 -- Document 01, "One step, in order": "Then come the criteria of criteria_conv or criteria_inf, which write scratch."
-use Prim.Native.Nat.{ℕ, _+_}
+use Prim.Native.Nat.{_+_}
 use mathlib.Core.Bool.{false, cond}
 use mathlib.Core.List.{List, [], _∷_, _++_}
 use lib.Ieee.{Float, inf, lt, neg, add, mul, div}
@@ -9,7 +9,7 @@ use Rattle.rules.specs.Arithmetic.{_+ᶠ_, _*ᶠ_, _/ᶠ_, +0, at}
 use Rattle.rules.specs.Vectors.{norm}
 use Rattle.rules.specs.Matrices.{opped, transOpped}
 use Rattle.rules.specs.Problem.{Embed}
-use Rattle.rules.specs.Step.{State, xX, xY, xS, part, aOp, aTrans, bOp, bTrans, cOp, cTrans}
+use Rattle.rules.specs.Step.{xX, xY, xS, part, aOp, aTrans, bOp, bTrans, cOp, cTrans}
 use Rattle.rules.specs.Prepare.{Norms}
 
 -- the number tau

@@ -6,17 +6,15 @@ use mathlib.Core.Bool.{Bool, true, false, _&&_, _||_}
 use mathlib.Core.List.{List, [], _∷_}
 use lib.Ieee.{Float, lt, le}
 use lib.ListN.{length, take, drop}
-use Rattle.rules.specs.declared.Answer.{Answer}
 use Rattle.rules.specs.declared.Cone.{Cone}
 use Rattle.rules.specs.declared.Cone.the-variants.{Zero, RPos, SOC, RotSOC, PSD}
-use Rattle.rules.specs.declared.Ending.{Ending}
 use Rattle.rules.specs.declared.Ending.the-variants.{Converged}
 use Rattle.rules.specs.Product.{Failure, none, coneWork}
 use Rattle.rules.specs.Problem.{Problem, embed, blocks, workLength}
 use Rattle.rules.specs.Step.{State}
 use Rattle.rules.specs.Criteria.{Criteria, conv, inf?, tauOf}
 use Rattle.rules.specs.Prepare.{prepared, preparedNorms}
-use Rattle.rules.specs.Run.{Turn, turn, Verdict, goesOn, ends, verdict, allowance, Ended, run, Left}
+use Rattle.rules.specs.Run.{Turn, turn, Verdict, goesOn, ends, verdict, allowance, Ended, run}
 use Rattle.rules.specs.Refusals.{badParam, tooLarge, invalidOp, badCone, notFinite, workShortage, numberOf, solved, turnedAway}
 
 -- ---- demand 1

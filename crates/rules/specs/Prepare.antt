@@ -5,7 +5,7 @@ use lib.Ieee.{Float, binary64, add, mul}
 use lib.ListN.{take, drop, set, replicate}
 use Rattle.rules.specs.Helpers.{one, larger, reciprocal}
 use Rattle.rules.specs.Root.{root}
-use Rattle.rules.specs.Arithmetic.{_+ᶠ_, _*ᶠ_, +0, at, each}
+use Rattle.rules.specs.Arithmetic.{_+ᶠ_, _*ᶠ_, +0, each}
 use Rattle.rules.specs.Vectors.{norm, scaled, added, shifted}
 use Rattle.rules.specs.Matrices.{opped, absaddedCols, absaddedRows}
 use Rattle.rules.specs.Product.{groupAll, coneWork}

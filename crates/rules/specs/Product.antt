@@ -1,5 +1,5 @@
 -- Document 01, "Port order", 6: the cone product: "blocks in list order; grouping gives each block of kinds 2, 3, 4 its smallest value."
-use Prim.Native.Nat.{ℕ, zero, suc, _+_, _*_, max}
+use Prim.Native.Nat.{ℕ, zero, suc, _+_, max}
 use mathlib.Core.Path.{_≡_}
 use mathlib.Core.Bool.{Bool, true, false, cond, not, _&&_}
 use lib.Dec.{leb}

@@ -1,10 +1,10 @@
 -- Document 01, "When the hub is turned away": "Tests run in this order; the first that applies answers, and none is given otherwise. k = q = 0, and both
 -- buffers keep their contents."
-use Prim.Native.Nat.{ℕ, zero, suc, _+_}
+use Prim.Native.Nat.{ℕ, zero, _+_}
 use mathlib.Core.Path.{_≡_}
 use mathlib.Core.Bool.{Bool, true, false, not, cond, _&&_, _||_}
 use mathlib.Core.List.{List, [], _∷_}
-use lib.Dec.{leb, ltb, eqb}
+use lib.Dec.{ltb, eqb}
 use lib.Ieee.{Float, nan, inf, fin, lt}
 use lib.ListN.{length}
 use Rattle.rules.specs.declared.Answer.{Answer}

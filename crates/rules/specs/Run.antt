@@ -1,7 +1,7 @@
 -- Document 01, "How a run ends".
 use Prim.Native.Nat.{ℕ, zero, suc, _+_, _-_, max}
 use mathlib.Core.Bool.{Bool, true, false, cond, _&&_}
-use mathlib.Core.List.{List, [], _∷_, _++_}
+use mathlib.Core.List.{List, [], _++_}
 use lib.Dec.{leb}
 use lib.Ieee.{Float, le}
 use lib.ListN.{length, take, drop}

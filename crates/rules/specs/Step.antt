@@ -1,7 +1,7 @@
 -- Document 01, "One step, in order": solver.rs, SelfDualEmbed and update_vecs.
 use Prim.Native.Nat.{ℕ, _+_}
-use mathlib.Core.Bool.{Bool, true, false, cond}
-use mathlib.Core.List.{List, [], _∷_, _++_}
+use mathlib.Core.Bool.{true, false, cond}
+use mathlib.Core.List.{List, _++_}
 use lib.Ieee.{Float, neg, sub}
 use lib.ListN.{take, drop, set}
 use Rattle.rules.specs.Helpers.{one, larger, smaller}

@@ -1,5 +1,5 @@
 -- Document 01, "Port order", 2: the vector routines of floatgeneric.rs. A buffer is a list of floats.
-use Prim.Native.Nat.{ℕ, suc, _+_, _-_, _*_, _/_}
+use Prim.Native.Nat.{ℕ, _+_, _-_, _*_, _/_}
 use mathlib.Core.Bool.{Bool, cond}
 use mathlib.Core.List.{List}
 use lib.Dec.{eqb}

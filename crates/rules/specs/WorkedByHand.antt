@@ -17,7 +17,6 @@ use Rattle.rules.specs.Helpers.{larger, smaller}
 use Rattle.rules.specs.Matrices.{opped, transOpped, absaddedRows, absaddedCols}
 use Rattle.rules.specs.Projections.{projSOC}
 use Rattle.rules.specs.Problem.{Problem}
-use Rattle.rules.specs.Run.{Left}
 use Rattle.rules.specs.Refusals.{solved, turnedAway}
 use Rattle.rules.specs.Root.{root}
 

@@ -5,14 +5,13 @@ use mathlib.Core.Path.{_≡_, refl, ap, _∙_}
 use mathlib.Core.Bool.{true, false}
 use mathlib.Core.List.{List, [], _∷_, _++_, append-assoc}
 use lib.Ieee.{Float}
-use lib.ListN.{length, take, drop, replicate, length-append, length-drop}
+use lib.ListN.{length, take, drop, length-append, length-drop}
 use lib.Seq.{take-at, drop-at, drop-drop}
 use Rattle.rules.specs.Helpers.{one, reciprocal}
 use Rattle.rules.specs.Arithmetic.{_*ᶠ_, _/ᶠ_, +0, at, each, eachTo}
 use Rattle.rules.specs.Vectors.{scaled}
 use Rattle.rules.specs.Problem.{Problem, lengthX}
 use Rattle.rules.specs.Prepare.{zeros}
-use Rattle.rules.specs.Step.{part}
 use Rattle.rules.specs.Run.{finalX, isScaled}
 use Rattle.rules.specs.declared.Ending.{Ending}
 use Rattle.rules.proofs.Parts.{put, drop-rest}

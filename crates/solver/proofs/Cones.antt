@@ -12,7 +12,7 @@ use Rattle.rules.specs.declared.Product.{Product}
 use Rattle.rules.specs.declared.Product.the-variants.{Done, Failed, No}
 use Rattle.rules.specs.declared.SolverParam.{SolverParam}
 use Rattle.rules.specs.Limits.{limit, mostPlaces}
-use Rattle.rules.specs.Blocks.{places, blocksOf, hasBadWord, isBadCone, totalPlaces}
+use Rattle.rules.specs.Blocks.{places, blocksOf, isBadCone, totalPlaces}
 use Rattle.rules.specs.Projections.{projBlock, sweepsFit}
 use Rattle.rules.specs.Product.{Failure, none, block, Passed, projAll, coneWork, blocksWithin, productFits, productAnswer, ProductOutcome}
 use Rattle.rules.specs.Problem.{lengthX}

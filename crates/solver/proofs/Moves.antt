@@ -10,7 +10,7 @@ use lib.ListN.{length, take, drop}
 use Rattle.rules.specs.Outcome.{Outcome}
 use Rattle.rules.specs.Vectors.{sameLength}
 use Rattle.rules.proofs.Outcome.{ruled-if-fits}
-use Rattle.rules.proofs.Parts.{put, from-start, drop-rest, put-part}
+use Rattle.rules.proofs.Parts.{put, drop-rest, put-part}
 
 pub di-ruled : {y ruled : List Float} {answer : Bool} {after : List Float} (mat x : List Float) → Outcome (sameLength mat y && sameLength x y) ruled y answer after → length mat ≡ length y → length x ≡ length y → after ≡ ruled
 di-ruled {y} mat x o h k = ruled-if-fits o (rw (eq-eqb (length mat) (length y) h) (eq-eqb (length x) (length y) k))

@@ -6,7 +6,6 @@ use mathlib.Core.Bool.{Bool, true, false}
 use mathlib.Core.List.{List, _++_}
 use lib.Ieee.{Float}
 use lib.ListN.{drop}
-use Rattle.rules.specs.declared.Answer.{Answer}
 use Rattle.rules.specs.declared.Ending.{Ending}
 use Rattle.rules.specs.declared.Ending.the-variants.{ConeFailure}
 use Rattle.rules.specs.declared.Product.{Product}
@@ -17,7 +16,7 @@ use Rattle.rules.specs.Problem.{Problem, embed, blocks}
 use Rattle.rules.specs.Step.{State, movedX, projected, updated, xX, xY, xS}
 use Rattle.rules.specs.Prepare.{Norms}
 use Rattle.rules.specs.Criteria.{Criteria, judged}
-use Rattle.rules.specs.Run.{Turn, turn, Verdict, goesOn, ends, verdict, allowance, Ended, finished, runFrom, isConeFailure}
+use Rattle.rules.specs.Run.{Turn, turn, goesOn, ends, verdict, allowance, finished, runFrom, isConeFailure}
 use Rattle.rules.proofs.Run.{goes-on-exactly}
 use Rattle.solver.specs.declared.run.Turned.{Turned}
 use Rattle.verdict.specs.declared.Verdict.{Verdict as Said}
@@ -25,7 +24,7 @@ use Rattle.verdict.specs.declared.Verdict.the-variants.{Ends}
 use Rattle.solver.specs.Fitting.{stateOf, Ready}
 use Rattle.solver.specs.Update.{Updated}
 use Rattle.verdict.specs.Verdict.{asVerdict}
-use Rattle.solver.specs.Run.{TurnedBy, AsEnded, Iterated}
+use Rattle.solver.specs.Run.{TurnedBy, Iterated}
 use Rattle.solver.proofs.Cones.{pass-rotations, answer-done, answer-failed, answer-some}
 
 -- ---- one step

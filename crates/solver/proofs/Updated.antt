@@ -8,13 +8,11 @@ use lib.Ieee.{Float, neg}
 use lib.ListN.{drop, set}
 use Rattle.rules.specs.declared.Product.{Product}
 use Rattle.rules.specs.declared.Product.the-variants.{Done, Failed, No}
-use Rattle.rules.specs.declared.SolverParam.{SolverParam}
-use Rattle.rules.specs.declared.Storage.{Storage}
 use Rattle.rules.specs.Helpers.{one, smaller}
 use Rattle.rules.specs.Arithmetic.{+0, at}
 use Rattle.rules.specs.Vectors.{transformedDi}
-use Rattle.rules.specs.Product.{none, block, productAnswer, ProductOutcome}
-use Rattle.rules.specs.Problem.{Problem, embed, lengthY, problemOf}
+use Rattle.rules.specs.Product.{block, productAnswer, ProductOutcome}
+use Rattle.rules.specs.Problem.{Problem, embed, lengthY}
 use Rattle.rules.specs.Step.{State, transOpK, movedX, projected, tauTaken, movedY, updated}
 use Rattle.solver.specs.Fitting.{stateOf}
 use Rattle.solver.specs.Update.{XMoved, YMoved, projectedBy, takenAt, nextRx, nextTy, nextY, Updated}

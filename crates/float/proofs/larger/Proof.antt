@@ -1,5 +1,4 @@
 -- `float::larger` meets its contract: each arm returns what the rule's tests pick.
-use mathlib.Core.Path.{sym, _∙_}
 use Rattle.rules.proofs.Helpers.{larger-tested}
 use Rattle.float.proofs.larger.Statement.{statement}
 use Rattle.float.proofs.larger.Tie as tie

@@ -1,5 +1,4 @@
 -- `float::magnitude` meets its contract: below zero the sign is flipped, and a zero of either sign is +0.
-use mathlib.Core.Path.{sym, _∙_}
 use Rattle.rules.proofs.Helpers.{magnitude-tested}
 use Rattle.float.proofs.magnitude.Statement.{statement}
 use Rattle.float.proofs.magnitude.Tie as tie

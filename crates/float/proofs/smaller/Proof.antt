@@ -1,5 +1,4 @@
 -- `float::smaller` meets its contract: each arm returns what the rule's tests pick.
-use mathlib.Core.Path.{sym, _∙_}
 use Rattle.rules.proofs.Helpers.{smaller-tested}
 use Rattle.float.proofs.smaller.Statement.{statement}
 use Rattle.float.proofs.smaller.Tie as tie

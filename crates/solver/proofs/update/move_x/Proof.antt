@@ -1,9 +1,8 @@
 -- `solver::update::move_x` meets its contract.
-use Prim.Native.Nat.{ℕ, _+_, _-_, _≤_}
+use Prim.Native.Nat.{_-_}
 use native.Mathlib.Omega.{arith}
-use mathlib.Core.Path.{_≡_, refl, sym, ap, _∙_}
+use mathlib.Core.Path.{_∙_}
 use borrow.Author.Needs.{needs}
-use lib.ListN.{length}
 use Rattle.rules.specs.Helpers.{one}
 use Rattle.rules.proofs.Kernels.{add-ruled}
 use Rattle.solver.proofs.Moves.{di-ruled}

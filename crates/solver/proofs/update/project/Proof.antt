@@ -1,9 +1,7 @@
 -- `solver::update::project` meets its contract.
-use Prim.Native.Nat.{ℕ, _+_, _-_, _≤_}
+use Prim.Native.Nat.{_-_}
 use native.Mathlib.Omega.{arith}
-use mathlib.Core.Path.{_≡_, refl, sym, ap, _∙_}
 use borrow.Author.Needs.{needs}
-use lib.ListN.{length}
 use Rattle.solver.proofs.Cones.{first-some, first-failed, second-some, second-done, second-failed, counts-done, counts-failed}
 use Rattle.solver.proofs.update.project.Statement.{statement}
 use Rattle.solver.proofs.update.project.Tie as tie

@@ -1,9 +1,6 @@
 -- `solver::update::take_tau` meets its contract.
-use Prim.Native.Nat.{ℕ, _+_, _-_, _≤_}
-use native.Mathlib.Omega.{arith}
-use mathlib.Core.Path.{_≡_, refl, sym, ap, _∙_}
+use Prim.Native.Nat.{_-_}
 use borrow.Author.Needs.{needs}
-use lib.ListN.{length}
 use Rattle.solver.proofs.update.take_tau.Statement.{statement}
 use Rattle.solver.proofs.update.take_tau.Tie as tie
 

@@ -1,9 +1,7 @@
 -- `solver::update::update_vecs` meets its contract.
-use Prim.Native.Nat.{ℕ, _+_, _-_, _≤_}
+use Prim.Native.Nat.{_-_}
 use native.Mathlib.Omega.{arith}
-use mathlib.Core.Path.{_≡_, refl, sym, ap, _∙_}
 use borrow.Author.Needs.{needs}
-use lib.ListN.{length}
 use Rattle.solver.proofs.Updated.{step-some, step-failed, step-done}
 use Rattle.rules.specs.Problem.{problemOf}
 use Rattle.solver.proofs.update.update_vecs.Statement.{statement}

@@ -58,7 +58,8 @@ module _ (bytes : List ℕ) (n m : ℕ) (found : Found bytes n m) where
         max-iter-said = rw count;
         sweep-limit-said = rw count;
         numbers-said = rw (count, numbers);
-        inside = rw (count, numbers) (found .inside) }
+        inside = rw (count, numbers) (found .inside);
+      }
 
   total-is : 23 + 16 * length ((cardAt n m (bitsOfBytes bytes)) .words) + 20 + 7 + 64 * length ((cardAt n m (bitsOfBytes bytes)) .numbers) ≡ bitCount n m (bitsOfBytes bytes)
   unfolding cardAt bitCount

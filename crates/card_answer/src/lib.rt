@@ -16,8 +16,8 @@ ghost use lib.ListN.{length, drop, take};
 ghost use Rattle.rules.specs.Refusals.{SolveOutcome};
 ghost use Rattle.card.specs.Card.{numbersOfA};
 ghost use Rattle.card_answer.specs.Answer.{numbersAt, parametersOf, storageOf, problemFrom, FieldsOutcome, CardOutcome};
-
 pub use lines::write_answer;
+pub use text::answer_text;
 
 // The card's fault; or n and m, how its problem ended or why it was turned away, k and q.
 pub enum Told {
@@ -92,7 +92,11 @@ fn parameters(numbers: &[u64], max_iter: u64, sweep_limit: u64) -> SolverParam
 fn storage_of(packed: bool) -> Storage
     ensures { λ r. ⌜ r ≡ storageOf packed ⌝ }
 {
-    if packed { Storage::Packed } else { Storage::Dense }
+    if packed {
+        Storage::Packed
+    } else {
+        Storage::Dense
+    }
 }
 
 // How many numbers A has.

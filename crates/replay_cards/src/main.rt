@@ -46,6 +46,9 @@ fn main() {
         return;
     }
     if !replay(patterns::word_at(&head, 0)) {
-        io::write_all(STDOUT_FILENO, b"stopped: a card is cut short, or one too many\n");
+        io::write_all(
+            STDOUT_FILENO,
+            b"stopped: a card is cut short, or one too many\n",
+        );
     }
 }

@@ -7,6 +7,8 @@ use mathlib.Core.List.{List, []}
 use lib.Dec.{leb}
 use lib.Ieee.{Float}
 use lib.ListN.{length, take, drop, replicate, length-take}
+use lib.Seq.{length-take-le}
+use Rattle.io.specs.Counts.{Counts}
 use Rattle.rules.specs.Arithmetic.{+0}
 use Rattle.rules.specs.Run.{solutionX, solutionY}
 use Rattle.card.specs.Card.{Card, Reading, fault, read, readCard}
@@ -47,6 +49,9 @@ pub rows-within : (bytes : List ℕ) (work : List Float) (told : Told) → told 
 rows-within bytes work told e = rw e (rows bytes work (readCard bytes) refl)
 
 -- ---- the whole text
+
+pub counts : (count : ℕ) (text : List ℕ) → count ≤ longest → longest ≤ length text → Counts count text
+counts count text h g = (omega arith, sym (length-take-le count text (omega arith)))
 
 pub text-too-short : (bytes before : List ℕ) → length before < longest → TextOutcome bytes before 0 before
 text-too-short bytes before h = record { too-short = λ _. (refl, refl); written = λ g. absurd (omega arith) }

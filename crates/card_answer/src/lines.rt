@@ -5,8 +5,5 @@ use libc::STDOUT_FILENO;
 pub fn write_answer(card: &[u8]) -> bool {
     let mut text = [0u8; crate::text::LONGEST];
     let length = crate::answer_text(card, &mut text);
-    if length > crate::text::LONGEST {
-        return false;
-    }
     io::write_all(STDOUT_FILENO, &text[..length])
 }

@@ -7,6 +7,7 @@ ghost use Prim.Native.Nat.{_+_, _-_, _*_, _≤_};
 ghost use mathlib.Core.Path.{_≡_};
 ghost use mathlib.Core.List.{_++_};
 ghost use lib.ListN.{length, take};
+ghost use Rattle.io.specs.Counts.{Counts};
 ghost use Rattle.io.specs.Digits.{digits, Fewest};
 ghost use Rattle.card_answer.specs.Text.{numberLine, numberLines, Numbered, FirstLine, Ended, AnswerText, columnsOf, rowsOf, ToldText, TextOutcome};
 
@@ -67,6 +68,7 @@ fn put_numbers(text: &mut [u8], at: usize, numbers: &[f64]) -> usize
 fn put_numbered(text: &mut [u8], word: &[u8], number: u64) -> usize
     requires { ⌜ length (now word) ≤ 8 ⌝ }
     requires { ⌜ 1200 ≤ length (now text) ⌝ }
+    ensures { λ r. ⌜ r ≤ 1200 ⌝ }
     ensures { λ r. ⌜ Numbered (now (word .entry)) number (take r (now (text .exit))) ⌝ }
 {
     let end = put(text, 0, word);
@@ -101,6 +103,7 @@ fn put_ended(
     requires { ⌜ 1200 ≤ length (now text) ⌝ }
     requires { ⌜ length (now x) ≤ 32 ⌝ }
     requires { ⌜ length (now y) ≤ 32 ⌝ }
+    ensures { λ r. ⌜ r ≤ 1200 ⌝ }
     ensures { λ r. ⌜ Ended (now (name .entry)) steps rotations (now (x .entry)) (now (y .entry)) (take r (now (text .exit))) ⌝ }
 {
     let after_first = put_first(text, name, steps, rotations);
@@ -120,6 +123,7 @@ fn put_answer(
     requires { ⌜ 1200 ≤ length (now text) ⌝ }
     requires { ⌜ length (now x) ≤ 32 ⌝ }
     requires { ⌜ length (now y) ≤ 32 ⌝ }
+    ensures { λ r. ⌜ r ≤ 1200 ⌝ }
     ensures { λ r. ⌜ AnswerText ending steps rotations (now (x .entry)) (now (y .entry)) (take r (now (text .exit))) ⌝ }
 {
     match ending {
@@ -143,6 +147,7 @@ fn put_answer(
 // Puts what the program writes for a card at the start of a buffer, and answers how many bytes that is.
 // Where the buffer may be too short, it answers 0 and changes nothing.
 pub fn answer_text(card: &[u8], text: &mut [u8]) -> usize
+    ensures { λ r. ⌜ Counts r (now (text .exit)) ⌝ }
     ensures { λ r. ⌜ TextOutcome (now (card .entry)) (now (text .entry)) r (now (text .exit)) ⌝ }
 {
     if text.len() < LONGEST {
@@ -158,6 +163,7 @@ fn put_told(text: &mut [u8], told: Told, work: &[f64]) -> usize
     requires { ⌜ 1200 ≤ length (now text) ⌝ }
     requires { ⌜ columnsOf told ≤ 32 ⌝ }
     requires { ⌜ rowsOf told ≤ 32 ⌝ }
+    ensures { λ r. ⌜ r ≤ 1200 ⌝ }
     ensures { λ r. ⌜ ToldText told (now (work .entry)) (take r (now (text .exit))) ⌝ }
 {
     match told {

@@ -1,14 +1,15 @@
 -- `card_answer::text::answer_text` meets its contract.
 use borrow.Author.Needs.{needs}
 use native.Mathlib.Omega.{arith}
-use Rattle.card_answer.proofs.Whole.{columns-within, rows-within, text-too-short, text-written}
+use mathlib.Core.Path.{refl}
+use Rattle.card_answer.proofs.Whole.{counts, columns-within, rows-within, text-too-short, text-written}
 use Rattle.card_answer.proofs.text.answer_text.Statement.{statement}
 use Rattle.card_answer.proofs.text.answer_text.Tie as tie
 
 returns : tie.Need-returns
 returns c =
     let a = c .before .before .before .args in
-    text-too-short (a .card .now) (a .text .now) (omega arith)
+    ((omega arith, refl), text-too-short (a .card .now) (a .text .now) (omega arith))
 
 slice-aggregate-answer : tie.Need-slice-aggregate-answer
 slice-aggregate-answer c = search needs
@@ -31,7 +32,7 @@ same-length c = search needs
 returns-2 : tie.Need-returns-2
 returns-2 c =
     let a = c .before .before .before .before .before .before .before .before .before .before .before .args in
-    text-written (a .card .now) (a .text .now) _ _ (c .before .before .put-told .result) _ (omega arith) (c .before .before .before .before .before .before .answer .ensures) (c .before .before .put-told .ensures)
+    (counts (c .before .before .put-told .result) _ (c .before .before .put-told .ensures .0) (omega (arith, c .before .before .put-told .kept)), text-written (a .card .now) (a .text .now) _ _ (c .before .before .put-told .result) _ (omega arith) (c .before .before .before .before .before .before .answer .ensures) (c .before .before .put-told .ensures .1))
 
 pub answer-text-spec : {M : Type 1} → statement M
 answer-text-spec =

@@ -115,73 +115,73 @@ same-length : tie.Need-same-length
 same-length c = search needs
 
 returns : tie.Need-returns
-returns c = rw (c .before .before .before .before .before .enum-told .given .1) (c .before .before .put-numbered .ensures)
+returns c = (c .before .before .put-numbered .ensures .0, rw (c .before .before .before .before .before .enum-told .given .1) (c .before .before .put-numbered .ensures .1))
 
 same-length-2 : tie.Need-same-length-2
 same-length-2 c = search needs
 
 returns-2 : tie.Need-returns-2
-returns-2 c = rw (c .before .before .before .before .before .enum-told2 .given .1) (c .before .before .put-numbered2 .ensures)
+returns-2 c = (c .before .before .put-numbered2 .ensures .0, rw (c .before .before .before .before .before .enum-told2 .given .1) (c .before .before .put-numbered2 .ensures .1))
 
 same-length-3 : tie.Need-same-length-3
 same-length-3 c = search needs
 
 returns-3 : tie.Need-returns-3
-returns-3 c = rw (c .before .before .before .before .before .enum-told3 .given .1) (c .before .before .put-numbered3 .ensures)
+returns-3 c = (c .before .before .put-numbered3 .ensures .0, rw (c .before .before .before .before .before .enum-told3 .given .1) (c .before .before .put-numbered3 .ensures .1))
 
 same-length-4 : tie.Need-same-length-4
 same-length-4 c = search needs
 
 returns-4 : tie.Need-returns-4
-returns-4 c = rw (c .before .before .before .before .before .enum-told4 .given .1) (c .before .before .put-numbered4 .ensures)
+returns-4 c = (c .before .before .put-numbered4 .ensures .0, rw (c .before .before .before .before .before .enum-told4 .given .1) (c .before .before .put-numbered4 .ensures .1))
 
 same-length-5 : tie.Need-same-length-5
 same-length-5 c = search needs
 
 returns-5 : tie.Need-returns-5
-returns-5 c = rw (c .before .before .before .before .before .enum-told5 .given .1) (c .before .before .put-numbered5 .ensures)
+returns-5 c = (c .before .before .put-numbered5 .ensures .0, rw (c .before .before .before .before .before .enum-told5 .given .1) (c .before .before .put-numbered5 .ensures .1))
 
 same-length-6 : tie.Need-same-length-6
 same-length-6 c = search needs
 
 returns-6 : tie.Need-returns-6
-returns-6 c = rw (c .before .before .before .before .before .enum-told6 .given .1) (c .before .before .put-numbered6 .ensures)
+returns-6 c = (c .before .before .put-numbered6 .ensures .0, rw (c .before .before .before .before .before .enum-told6 .given .1) (c .before .before .put-numbered6 .ensures .1))
 
 same-length-7 : tie.Need-same-length-7
 same-length-7 c = search needs
 
 returns-7 : tie.Need-returns-7
-returns-7 c = rw (c .before .before .before .before .before .enum-told7 .given .1) (c .before .before .put-ended .ensures)
+returns-7 c = (c .before .before .put-ended .ensures .0, rw (c .before .before .before .before .before .enum-told7 .given .1) (c .before .before .put-ended .ensures .1))
 
 same-length-8 : tie.Need-same-length-8
 same-length-8 c = search needs
 
 returns-8 : tie.Need-returns-8
-returns-8 c = rw (c .before .before .before .before .before .enum-told8 .given .1) (c .before .before .put-ended2 .ensures)
+returns-8 c = (c .before .before .put-ended2 .ensures .0, rw (c .before .before .before .before .before .enum-told8 .given .1) (c .before .before .put-ended2 .ensures .1))
 
 same-length-9 : tie.Need-same-length-9
 same-length-9 c = search needs
 
 returns-9 : tie.Need-returns-9
-returns-9 c = rw (c .before .before .before .before .before .enum-told9 .given .1) (c .before .before .put-ended3 .ensures)
+returns-9 c = (c .before .before .put-ended3 .ensures .0, rw (c .before .before .before .before .before .enum-told9 .given .1) (c .before .before .put-ended3 .ensures .1))
 
 same-length-10 : tie.Need-same-length-10
 same-length-10 c = search needs
 
 returns-10 : tie.Need-returns-10
-returns-10 c = rw (c .before .before .before .before .before .enum-told10 .given .1) (c .before .before .put-ended4 .ensures)
+returns-10 c = (c .before .before .put-ended4 .ensures .0, rw (c .before .before .before .before .before .enum-told10 .given .1) (c .before .before .put-ended4 .ensures .1))
 
 same-length-11 : tie.Need-same-length-11
 same-length-11 c = search needs
 
 returns-11 : tie.Need-returns-11
-returns-11 c = rw (c .before .before .before .before .before .enum-told11 .given .1) (c .before .before .put-ended5 .ensures)
+returns-11 c = (c .before .before .put-ended5 .ensures .0, rw (c .before .before .before .before .before .enum-told11 .given .1) (c .before .before .put-ended5 .ensures .1))
 
 same-length-12 : tie.Need-same-length-12
 same-length-12 c = search needs
 
 returns-12 : tie.Need-returns-12
-returns-12 c = rw (c .before .before .before .before .before .enum-told12 .given .1) (c .before .before .put-ended6 .ensures)
+returns-12 c = (c .before .before .put-ended6 .ensures .0, rw (c .before .before .before .before .before .enum-told12 .given .1) (c .before .before .put-ended6 .ensures .1))
 
 pub put-answer-spec : {M : Type 1} → statement M
 put-answer-spec =

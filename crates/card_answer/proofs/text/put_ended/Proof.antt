@@ -20,7 +20,7 @@ same-length c = search needs
 returns : tie.Need-returns
 returns c =
     let a = c .before .before .before .before .before .before .before .before .before .before .before .before .before .before .before .before .args in
-    ended-put (a .steps) (a .rotations) (c .before .before .before .before .before .before .before .before .before .before .put-first .result) (c .before .before .before .before .before .before .put-numbers .result) (c .before .before .put-numbers2 .result) (a .name .now) _ _ _ (a .x .now) (a .y .now) (c .before .before .before .before .before .before .before .before .before .before .put-first .ensures .1) (c .before .before .before .before .before .before .put-numbers .ensures .1) (c .before .before .put-numbers2 .ensures .1)
+    (omega (arith, c .before .before .before .before .before .before .before .before .before .before .before .before .before .before .before .before .pre, c .before .before .before .before .before .before .before .before .before .before .put-first .ensures .0, c .before .before .before .before .before .before .put-numbers .ensures .0, c .before .before .put-numbers2 .ensures .0), ended-put (a .steps) (a .rotations) (c .before .before .before .before .before .before .before .before .before .before .put-first .result) (c .before .before .before .before .before .before .put-numbers .result) (c .before .before .put-numbers2 .result) (a .name .now) _ _ _ (a .x .now) (a .y .now) (c .before .before .before .before .before .before .before .before .before .before .put-first .ensures .1) (c .before .before .before .before .before .before .put-numbers .ensures .1) (c .before .before .put-numbers2 .ensures .1))
 
 pub put-ended-spec : {M : Type 1} → statement M
 put-ended-spec =

@@ -28,7 +28,7 @@ returns : tie.Need-returns
 returns c =
     let a = c .before .before .before .before .before .before .before .before .before .before .before .before .before .before .before .args in
     let d = c .before .before .before .before .before .before .before .put-decimal .ensures in
-    numbered-put (a .number) (c .before .before .before .before .before .before .before .before .before .before .before .put .result) (c .before .before .before .before .before .before .before .put-decimal .result) (c .before .before .put2 .result) (a .word .now) _ _ _ (c .before .before .before .before .before .before .before .before .before .before .before .put .ensures .1) (d .1 .1 .0) (d .1 .1 .1) (c .before .before .put2 .ensures .1)
+    (omega (arith, c .before .before .before .before .before .before .before .before .before .before .before .before .before .before .before .pre .0, c .before .before .before .before .before .before .before .before .before .before .before .put .ensures .0, d .1 .0, c .before .before .put2 .ensures .0), numbered-put (a .number) (c .before .before .before .before .before .before .before .before .before .before .before .put .result) (c .before .before .before .before .before .before .before .put-decimal .result) (c .before .before .put2 .result) (a .word .now) _ _ _ (c .before .before .before .before .before .before .before .before .before .before .before .put .ensures .1) (d .1 .1 .0) (d .1 .1 .1) (c .before .before .put2 .ensures .1))
 
 pub put-numbered-spec : {M : Type 1} → statement M
 put-numbered-spec =

@@ -37,13 +37,14 @@ same-length : tie.Need-same-length
 same-length c = search needs
 
 returns : tie.Need-returns
-returns c = rw (c .before .before .before .before .before .before .told .given .1) (c .before .before .put-numbered .ensures)
+returns c = (c .before .before .put-numbered .ensures .0, rw (c .before .before .before .before .before .before .told .given .1) (c .before .before .put-numbered .ensures .1))
 
 same-length-2 : tie.Need-same-length-2
 same-length-2 c = search needs
 
 returns-2 : tie.Need-returns-2
-returns-2 c = rw (c .before .before .before .before .before .before .before .told2 .given .1) (rw (c .before .before .before .before .solution-x .ensures, c .before .before .before .solution-y .ensures) at (c .before .before .put-answer .ensures))
+returns-2 c =
+    (c .before .before .put-answer .ensures .0, rw (c .before .before .before .before .before .before .before .told2 .given .1) (rw (c .before .before .before .before .solution-x .ensures, c .before .before .before .solution-y .ensures) at (c .before .before .put-answer .ensures .1)))
 
 pub put-told-spec : {M : Type 1} → statement M
 put-told-spec =

@@ -2,3 +2,4 @@ pub mod Numbers
 pub mod Outcome
 pub mod Texts
 pub mod Whole
+pub mod Enough

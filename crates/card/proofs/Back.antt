@@ -6,11 +6,12 @@ use mathlib.Core.Path.{_≡_, refl, sym, ap, _∙_}
 use mathlib.Core.Bool.{Bool, true, false, cond}
 use mathlib.Core.List.{List, [], _∷_, _++_}
 use lib.Dec.{ltb, eqb}
-use lib.ListN.{length, take, drop, getD, replicate, length-append, length-drop, length-replicate, List·getD-eq-default}
+use lib.ListN.{length, take, drop, getD, replicate, length-drop, List·getD-eq-default}
 use lib.Seq.{take-add, take-length, length-take-le, getD-take, getD-drop, ext-getD}
 use borrow.Author.Tests.{ltb-true, ltb-false, eqb-true, ne-eqb}
 use Rattle.card.specs.Card.{bitsOf, bitsOfAll, bitsOfBytes, value, allZero, Card, bytesFor, bytesOf, cardBits}
 use Rattle.card.specs.Fields.{fieldAt, fieldsAt}
+use Rattle.card.specs.RoundTrip.{AreBytes}
 use Rattle.card.proofs.Binary.{Binary}
 use Rattle.card.proofs.Fronts.{front1, front2, front3, front4, front5, front6, front7, front8, front9, card-is}
 use Rattle.card.proofs.Bytes.{padded-bit, padded-length}
@@ -94,10 +95,6 @@ unfolding bytesOf
 same-bytes zero xs ys same = refl
 same-bytes (suc c) xs ys same =
     rw (same-eight xs ys same, same-bytes c (drop 8 xs) (drop 8 ys) (λ i. getD-drop 8 xs i 0 ∙ same (8 + i) ∙ sym (getD-drop 8 ys i 0)))
-
--- every byte is below 256
-abbrev pub AreBytes : List ℕ → Type 0
-AreBytes bytes = (i : ℕ) → getD bytes i 0 < 256
 
 pub bytes-back : (bytes : List ℕ) → AreBytes bytes → bytesOf (length bytes) (bitsOfBytes bytes) ≡ bytes
 unfolding bytesOf bitsOfBytes

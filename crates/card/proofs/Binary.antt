@@ -1,16 +1,17 @@
 -- Laws of lists of bits, each 0 or 1: what they say is below a power of two.
-use Prim.Native.Nat.{ℕ, zero, suc, _+_, _-_, _*_, _/_, _%_, _^_, _≤_, _<_}
+use Prim.Native.Nat.{ℕ, zero, suc, _+_, _*_, _/_, _^_, _≤_, _<_}
 use native.Mathlib.Nat.{pow-suc, pow-le-pow-right, mul-le-mul-right, mul-assoc, one-mul, mul-one}
 use native.Mathlib.Omega.{arith}
-use mathlib.Core.Path.{_≡_, refl, sym, ap, _∙_}
+use mathlib.Core.Path.{_≡_, refl, ap}
 use mathlib.Core.Bool.{Bool, true, false}
-use mathlib.Core.List.{List, [], _∷_, _++_}
+use mathlib.Core.List.{List, [], _∷_}
 use lib.Dec.{eqb, ltb}
 use lib.ListN.{length, take, drop, getD, length-take, List·getD-eq-default}
+use lib.Pow.{pow-pos}
 use lib.Seq.{getD-drop, getD-take}
-use borrow.Author.Tests.{ltb-true, ltb-false, eqb-true, eqb-false, eq-eqb, ne-eqb}
+use borrow.Author.Tests.{ltb-true, ltb-false, ne-eqb}
 use Rattle.card.specs.Card.{bitsOfBytes, valueFrom, value, allZero}
-use Rattle.card.specs.Fields.{fieldAt}
+use Rattle.card.specs.Fields.{fieldAt, fieldsAt}
 use Rattle.card.proofs.Bits.{bits-length, byte-bit}
 
 abbrev pub Binary : List ℕ → Type 0
@@ -60,6 +61,12 @@ field-below at w bits b =
     let l : length (take w (drop at bits)) ≤ w = rw (length-take w (drop at bits)) (omega arith) in
     let v : value (take w (drop at bits)) < 1 * 2 ^ length (take w (drop at bits)) = value-below 0 (take w (drop at bits)) (take-binary w (drop at bits) (drop-binary at bits b)) in
     omega (arith, one-mul (2 ^ length (take w (drop at bits))), pow-le-pow-right {n = 2} (omega arith) {i = length (take w (drop at bits))} {j = w} l)
+
+pub fields-below : (k at w : ℕ) (bits : List ℕ) → Binary bits → (i : ℕ) → getD (fieldsAt k at w bits) i 0 < 2 ^ w
+unfolding fieldsAt
+fields-below zero at w bits b i = pow-pos w
+fields-below (suc k) at w bits b zero = field-below at w bits b
+fields-below (suc k) at w bits b (suc i) = fields-below k (at + w) w bits b i
 
 -- ---- all zero, told by the value
 

@@ -1,16 +1,17 @@
 -- A card that is written, read again: the bytes have its bits and a padding of zeros, and each field is read as it was.
 use Prim.Native.Nat.{ℕ, zero, suc, _+_, _-_, _*_, _/_, _%_, _^_, _≤_, _<_}
-use native.Mathlib.Nat.{zero-add, mul-suc, mod-eq-of-lt}
+use native.Mathlib.Nat.{mul-suc, mod-eq-of-lt}
 use native.Mathlib.Omega.{arith}
 use mathlib.Core.Path.{_≡_, refl, sym, ap, _∙_}
 use mathlib.Core.Bool.{Bool, true, false, cond}
 use mathlib.Core.List.{List, [], _∷_, _++_, append-assoc}
-use lib.Dec.{ltb, eqb, leb}
+use lib.Dec.{ltb, eqb}
 use lib.ListN.{length, take, drop, getD, replicate, length-append, length-replicate, List·getD-append, List·getD-eq-default}
 use lib.Seq.{take-all, take-at, drop-at, drop-drop, getD-take, getD-append-add, ext-getD}
 use borrow.Author.Tests.{ltb-true, ltb-false, le-leb, eq-eqb}
-use Rattle.card.specs.Card.{bitsOf, bitsOfAll, bitsOfBytes, valueFrom, allZero, Card, Reading, fault, read, numberCount, taken, takenAll, closed, readBits, readCard, bytesFor, bytesOf, cardBits, writtenCard}
+use Rattle.card.specs.Card.{bitsOf, bitsOfAll, bitsOfBytes, allZero, Card, Reading, fault, read, numberCount, taken, takenAll, closed, readBits, readCard, bytesFor, bytesOf, cardBits, writtenCard}
 use Rattle.card.specs.Fields.{fieldAt, byteAt}
+use Rattle.card.specs.RoundTrip.{Fits}
 use Rattle.card.proofs.Bits.{bitsOf-length, bits-length, bit-of, byte-bit}
 use Rattle.card.proofs.Binary.{Binary, drop-binary}
 use Rattle.card.proofs.Bytes.{padded-bit, padded-length, bytes-of-length}
@@ -154,17 +155,6 @@ closed-zeros k n h =
     rw (l, short, all, zeros-are n, eq-eqb n n refl)
 
 -- ---- the whole card
-
--- a card whose fields hold what they are to say
-pub record Fits (k : Card) : Type 0 where
-  pub n-fits : k .n ≤ 32
-  pub m-fits : k .m ≤ 32
-  pub few-words : length (k .words) ≤ 63
-  pub words-fit : (i : ℕ) → getD (k .words) i 0 < 2 ^ 16
-  pub max-iter-fits : k .maxIter < 2 ^ 20
-  pub sweep-limit-fits : k .sweepLimit < 2 ^ 7
-  pub as-many-numbers : length (k .numbers) ≡ numberCount (k .packed) (k .n) (k .m)
-  pub numbers-fit : (i : ℕ) → getD (k .numbers) i 0 < 2 ^ 64
 
 one-field : (k : Card) (pad : List ℕ) → cardBits k ++ pad ≡ bitsOf 4 1 ++ (bitsOf 1 (cond (k .packed) 1 0) ++ (bitsOf 6 (k .n) ++ (bitsOf 6 (k .m) ++ (bitsOf 6 (length (k .words)) ++ (bitsOfAll 16 (k .words) ++ (bitsOf 20 (k .maxIter) ++ (bitsOf 7 (k .sweepLimit) ++ (bitsOfAll 64 (k .numbers) ++ pad))))))))
 unfolding front1 front2 front3 front4 front5 front6 front7 front8 front9

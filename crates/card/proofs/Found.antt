@@ -1,7 +1,7 @@
 -- What is known of a card that is read: every test was met, and the card is what stands at the places of its fields.
-use Prim.Native.Nat.{ℕ, _+_, _-_, _*_, _%_, _≤_, _<_}
+use Prim.Native.Nat.{ℕ, _+_, _*_, _%_, _≤_}
 use native.Mathlib.Omega.{arith}
-use mathlib.Core.Path.{_≡_, refl, sym, ap, _∙_}
+use mathlib.Core.Path.{_≡_, refl, _∙_}
 use mathlib.Core.Bool.{Bool, true, false, cond}
 use mathlib.Core.List.{List, _++_}
 use lib.Dec.{leb, eqb}
@@ -10,8 +10,7 @@ use borrow.Author.Tests.{leb-true, eqb-true}
 use Rattle.card.specs.Card.{bitsOfBytes, allZero, Card, Reading, fault, read, numberCount, closed, readCard}
 use Rattle.card.specs.Fields.{fieldAt, fieldsAt, bitCount, cardAt, restAt}
 use Rattle.card.specs.Outcome.{answerOf, wordsAfter, numbersAfter}
-use Rattle.card.specs.declared.CardRead.{CardRead}
-use Rattle.card.specs.declared.CardRead.the-variants.{Fault, Read}
+use Rattle.card.specs.declared.CardRead.the-variants.{Read}
 use Rattle.card.proofs.Bits.{bits-length, fields-length}
 use Rattle.card.proofs.Binary.{bytes-binary, field-below}
 use Rattle.card.proofs.Places.{card-by-places}

@@ -1,3 +1,4 @@
+pub mod Counts
 pub mod Bits
 pub mod Binary
 pub mod Places
@@ -11,4 +12,5 @@ pub mod Writing
 pub mod Values
 pub mod Back
 pub mod Forth
+pub mod Longer
 pub mod RoundTrip

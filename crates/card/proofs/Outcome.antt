@@ -1,16 +1,14 @@
 -- How the reader shows its outcome.
 use Prim.Native.Nat.{ℕ, _+_, _*_, _≤_, _<_}
 use native.Mathlib.Omega.{arith}
-use mathlib.Core.Path.{_≡_, refl, sym, ap, _∙_}
+use mathlib.Core.Path.{_≡_, refl, sym, _∙_}
 use mathlib.Core.Bool.{Bool, true, false}
 use mathlib.Core.List.{List, _++_}
-use lib.Dec.{leb}
 use lib.ListN.{length, drop}
 use borrow.Author.Tests.{le-leb, lt-leb}
 use Rattle.card.specs.Card.{bitsOfBytes, Reading, fault, read, numberCount, readCard}
 use Rattle.card.specs.Fields.{fieldsAt}
 use Rattle.card.specs.Outcome.{holdsAny, answerOf, wordsAfter, numbersAfter, ReadOutcome}
-use Rattle.card.specs.declared.CardRead.{CardRead}
 use Rattle.card.specs.declared.CardRead.the-variants.{No, Fault, Read}
 use Rattle.card.proofs.Found.{words-are, numbers-are}
 

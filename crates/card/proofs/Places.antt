@@ -1,16 +1,16 @@
 -- The reading of a card by the places of its fields.
-use Prim.Native.Nat.{ℕ, zero, suc, _+_, _-_, _*_, _/_, _%_, _^_, _≤_, _<_}
+use Prim.Native.Nat.{ℕ, zero, suc, _+_, _-_, _*_, _≤_, _<_}
 use native.Mathlib.Nat.{mul-zero, mul-suc}
 use native.Mathlib.Omega.{arith}
-use mathlib.Core.Path.{_≡_, refl, sym, ap, _∙_}
+use mathlib.Core.Path.{_≡_, refl, sym, _∙_}
 use mathlib.Core.Bool.{Bool, true, false, cond}
-use mathlib.Core.List.{List, [], _∷_, _++_}
+use mathlib.Core.List.{List, _∷_}
 use lib.Dec.{leb, eqb}
-use lib.ListN.{length, take, drop, length-drop}
+use lib.ListN.{length, drop, length-drop}
 use lib.Seq.{drop-drop}
 use borrow.Author.Tests.{leb-true, leb-false, le-leb, lt-leb}
-use Rattle.card.specs.Card.{bitsOfBytes, value, Card, Reading, fault, read, numberCount, taken, takenAll, judged, closed, readBits, readCard}
-use Rattle.card.specs.Fields.{fieldAt, fieldsAt, countAt, bitCount, cardAt, restAt}
+use Rattle.card.specs.Card.{bitsOfBytes, Reading, fault, numberCount, taken, takenAll, judged, closed, readBits, readCard}
+use Rattle.card.specs.Fields.{fieldAt, fieldsAt, restAt}
 
 -- ---- a field at a place
 

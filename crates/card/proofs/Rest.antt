@@ -1,13 +1,13 @@
 -- The last judgements: whether all fields are whole, the padding, bytes left over.
-use Prim.Native.Nat.{ℕ, _+_, _-_, _*_, _/_, _%_, _≤_, _<_}
+use Prim.Native.Nat.{ℕ, _+_, _-_, _*_, _%_, _≤_, _<_}
 use native.Mathlib.Omega.{arith}
-use mathlib.Core.Path.{_≡_, refl, sym, ap, _∙_}
-use mathlib.Core.Bool.{Bool, true, false, cond}
+use mathlib.Core.Path.{_≡_, _∙_}
+use mathlib.Core.Bool.{true, false}
 use mathlib.Core.List.{List}
-use lib.Dec.{leb, eqb}
+use lib.Dec.{eqb}
 use lib.ListN.{length, take, drop, length-drop}
 use borrow.Author.Tests.{le-leb, lt-leb, eq-eqb, ne-eqb}
-use Rattle.card.specs.Card.{valueFrom, allZero, Card, Reading, fault, read, closed, bytesFor, numberCount}
+use Rattle.card.specs.Card.{allZero, Card, fault, read, closed, bytesFor, numberCount}
 use Rattle.card.specs.Fields.{fieldAt, bitCount, cardAt, restAt}
 use Rattle.card.specs.Outcome.{answerOf}
 use Rattle.card.specs.declared.CardRead.the-variants.{Read}

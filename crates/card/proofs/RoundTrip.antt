@@ -1,23 +1,26 @@
 -- What a reader and a writer promise each other, and that their outcomes are each one thing.
-use Prim.Native.Nat.{ℕ, _+_, _-_, _*_, _/_, _%_, _^_, _≤_, _<_}
+use Prim.Native.Nat.{ℕ, _+_, _*_, _≤_, _<_}
 use native.Mathlib.Omega.{arith}
-use mathlib.Core.Path.{_≡_, refl, sym, ap, _∙_}
+use mathlib.Core.Path.{_≡_, refl, sym, ap, subst, _∙_}
 use mathlib.Core.Bool.{Bool, true, false, cond}
-use mathlib.Core.List.{List, [], _∷_, _++_}
-use lib.Dec.{eqb}
-use lib.ListN.{length, take, drop, getD}
+use mathlib.Core.List.{List}
+use lib.Dec.{leb, eqb}
+use lib.ListN.{length, take}
 use lib.Seq.{length-take-le}
-use borrow.Author.Tests.{eqb-true, eqb-false}
-use Rattle.card.specs.Card.{bitsOfBytes, Card, read, readCard, numberCount, bytesFor, bytesOf, cardBits, writtenCard}
+use borrow.Author.Tests.{eqb-true, eqb-false, le-leb, lt-ltb, eq-eqb}
+use Rattle.card.specs.Card.{bitsOfBytes, Card, read, readCard, numberCount, bytesFor, cardBits, writtenCard}
 use Rattle.card.specs.Fields.{fieldAt, fieldsAt, bitCount, cardAt}
-use Rattle.card.specs.Outcome.{answerOf, ReadOutcome, WriteOutcome}
+use Rattle.card.specs.Outcome.{answerOf, ReadOutcome, isWritten, WriteOutcome}
+use Rattle.card.specs.RoundTrip.{AreBytes, Fits}
 use Rattle.card.specs.declared.CardRead.{CardRead}
 use Rattle.card.specs.declared.Written.{Written}
 use Rattle.card.proofs.Bits.{bits-length, fields-length}
-use Rattle.card.proofs.Binary.{bytes-binary, field-below}
+use Rattle.card.proofs.Binary.{bytes-binary, field-below, fields-below}
 use Rattle.card.proofs.Found.{Found, found-at}
-use Rattle.card.proofs.Back.{Says, bits-said, AreBytes, same-bytes, bytes-back, cut-same, bytes-needed}
-use Rattle.card.proofs.Writing.{written-is}
+use Rattle.card.proofs.Back.{Says, bits-said, same-bytes, bytes-back, cut-same, bytes-needed}
+use Rattle.card.proofs.Forth.{read-again}
+use Rattle.card.proofs.Longer.{read-short-of}
+use Rattle.card.proofs.Writing.{written-is, written-length}
 
 -- ---- any two outcomes that a contract allows coincide
 
@@ -86,3 +89,47 @@ read-then-written-is-the-same bytes k below e =
     let m = fieldAt 11 6 (bitsOfBytes bytes) in
     let is : k ≡ cardAt n m (bitsOfBytes bytes) = cc (found .is) in
     ap writtenCard is ∙ same-card bytes n m found below
+
+-- ---- and the other way
+
+pub written-then-read-is-the-same : (k : Card) → Fits k → readCard (writtenCard k) ≡ read k
+written-then-read-is-the-same k fits = read-again k fits
+
+-- ---- The writer takes every card that is read, if its buffer is as long as the file.
+
+fits-found : (bytes : List ℕ) (n m : ℕ) → Found bytes n m → Fits (cardAt n m (bitsOfBytes bytes))
+unfolding cardAt
+fits-found bytes n m found =
+    let bits = bitsOfBytes bytes in
+    let b = bytes-binary bytes in
+    record {
+      n-fits = found .n-most;
+      m-fits = found .m-most;
+      few-words = rw (fields-length (fieldAt 17 6 bits) 23 16 bits) (omega (arith, field-below 17 6 bits b));
+      words-fit = fields-below (fieldAt 17 6 bits) 23 16 bits b;
+      max-iter-fits = field-below (23 + 16 * fieldAt 17 6 bits) 20 bits b;
+      sweep-limit-fits = field-below (23 + 16 * fieldAt 17 6 bits + 20) 7 bits b;
+      as-many-numbers = fields-length (numberCount (eqb (fieldAt 4 1 bits) 1) n m) (23 + 16 * fieldAt 17 6 bits + 20 + 7) 64 bits;
+      numbers-fit = fields-below (numberCount (eqb (fieldAt 4 1 bits) 1) n m) (23 + 16 * fieldAt 17 6 bits + 20 + 7) 64 bits b;
+    }
+
+pub what-is-read-fits : (bytes : List ℕ) (k : Card) → readCard bytes ≡ read k → Fits k
+what-is-read-fits bytes k e =
+    let found = found-at bytes (k .packed) (k .n) (k .m) (length (k .words)) (k .maxIter) (k .sweepLimit) (ap answerOf e) in
+    let n = fieldAt 5 6 (bitsOfBytes bytes) in
+    let m = fieldAt 11 6 (bitsOfBytes bytes) in
+    let is : k ≡ cardAt n m (bitsOfBytes bytes) = cc (found .is) in
+    subst (λ (c : Card). Fits c) (sym is) (fits-found bytes n m found)
+
+pub what-fits-is-written : (k : Card) (space : ℕ) → Fits k → isWritten k space ≡ leb (length (writtenCard k)) space
+what-fits-is-written k space fits =
+    rw (le-leb (k .n) 32 (fits .n-fits), le-leb (k .m) 32 (fits .m-fits), le-leb (length (k .words)) 63 (fits .few-words), lt-ltb (k .maxIter) 1048576 (fits .max-iter-fits), lt-ltb (k .sweepLimit) 128 (fits .sweep-limit-fits), eq-eqb (length (k .numbers)) (numberCount (k .packed) (k .n) (k .m)) (fits .as-many-numbers), written-length k)
+
+pub what-is-read-is-written : (bytes : List ℕ) (k : Card) (space : ℕ) → AreBytes bytes → readCard bytes ≡ read k → isWritten k space ≡ leb (length bytes) space
+what-is-read-is-written bytes k space below e =
+    what-fits-is-written k space (what-is-read-fits bytes k e) ∙ ap (λ (l : List ℕ). leb (length l) space) (read-then-written-is-the-same bytes k below e)
+
+-- ---- The largest card has 8861 bytes: of a longer file, one byte more is enough to judge it.
+
+pub longer-than-any-card : (bytes : List ℕ) → 8862 ≤ length bytes → readCard (take 8862 bytes) ≡ readCard bytes
+longer-than-any-card bytes h = read-short-of bytes h

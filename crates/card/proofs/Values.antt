@@ -1,10 +1,10 @@
 -- A number and its bits: each says the other.
-use Prim.Native.Nat.{ℕ, zero, suc, _+_, _-_, _*_, _/_, _%_, _^_, _≤_, _<_}
+use Prim.Native.Nat.{ℕ, zero, suc, _+_, _*_, _/_, _%_, _^_, _≤_, _<_}
 use native.Mathlib.Nat.{pow-suc, add-mul, mul-assoc, mul-one, one-mul, mul-zero, mul-suc, mod-one, mod-eq-of-lt}
 use native.Mathlib.Omega.{arith}
 use mathlib.Core.Path.{_≡_, refl, sym, ap, _∙_}
-use mathlib.Core.List.{List, [], _∷_, _++_}
-use lib.ListN.{length, take, drop, getD, length-drop}
+use mathlib.Core.List.{List, [], _∷_}
+use lib.ListN.{length, take, drop, length-drop}
 use lib.Pow.{high, mod-pow-add}
 use lib.Seq.{length-take-le, take-add, drop-drop}
 use Rattle.card.specs.Card.{bitsOf, bitsOfAll, valueFrom, value}

@@ -1,8 +1,7 @@
 -- How the writer shows its outcome.
 use Prim.Native.Nat.{ℕ, _+_, _*_, _≤_, _<_}
-use native.Mathlib.Omega.{arith}
 use mathlib.Core.Path.{_≡_, refl, sym, ap, _∙_}
-use mathlib.Core.Bool.{Bool, true, false}
+use mathlib.Core.Bool.{true, false}
 use mathlib.Core.List.{List, _++_}
 use lib.ListN.{length, drop}
 use borrow.Author.Tests.{le-leb, lt-leb, lt-ltb, le-ltb, eq-eqb, ne-eqb}
@@ -47,18 +46,19 @@ module _ (k : Card) (bytes : List ℕ) where
             no-numbers h = not-written (rw (le-leb (k .n) 32 n-fits, le-leb (k .m) 32 m-fits, le-leb (length (k .words)) 63 words-fits, lt-ltb (k .maxIter) 1048576 max-iter-fits, lt-ltb (k .sweepLimit) 128 sweep-limit-fits, ne-eqb (length (k .numbers)) (numberCount (k .packed) (k .n) (k .m)) h))
 
             module _ (numbers-fits : length (k .numbers) ≡ numberCount (k .packed) (k .n) (k .m)) where
-              module _ (count : ℕ) (is : count ≡ bytesFor (23 + 16 * length (k .words) + 20 + 7 + 64 * length (k .numbers))) where
-                count-is : bytesFor (length (cardBits k)) ≡ count
-                count-is = rw (card-length k) (sym is)
+              count-is : bytesFor (length (cardBits k)) ≡ bytesFor (23 + 16 * length (k .words) + 20 + 7 + 64 * length (k .numbers))
+              count-is = rw (card-length k)
 
-                pub no-room : length bytes < count → WriteOutcome k bytes No bytes
-                no-room h = not-written (rw (le-leb (k .n) 32 n-fits, le-leb (k .m) 32 m-fits, le-leb (length (k .words)) 63 words-fits, lt-ltb (k .maxIter) 1048576 max-iter-fits, lt-ltb (k .sweepLimit) 128 sweep-limit-fits, eq-eqb (length (k .numbers)) (numberCount (k .packed) (k .n) (k .m)) numbers-fits, count-is, lt-leb count (length bytes) h))
+              pub no-room : length bytes < bytesFor (23 + 16 * length (k .words) + 20 + 7 + 64 * length (k .numbers)) → WriteOutcome k bytes No bytes
+              no-room h = not-written (rw (le-leb (k .n) 32 n-fits, le-leb (k .m) 32 m-fits, le-leb (length (k .words)) 63 words-fits, lt-ltb (k .maxIter) 1048576 max-iter-fits, lt-ltb (k .sweepLimit) 128 sweep-limit-fits, eq-eqb (length (k .numbers)) (numberCount (k .packed) (k .n) (k .m)) numbers-fits, count-is, lt-leb (bytesFor (23 + 16 * length (k .words) + 20 + 7 + 64 * length (k .numbers))) (length bytes) h))
 
-                pub written : count ≤ length bytes → (bytesLeft : List ℕ) → bytesLeft ≡ bytesOf count (cardBits k) ++ drop count bytes → WriteOutcome k bytes (Bytes count) bytesLeft
-                written h bytesLeft e =
-                    let yes : isWritten k (length bytes) ≡ true = rw (le-leb (k .n) 32 n-fits, le-leb (k .m) 32 m-fits, le-leb (length (k .words)) 63 words-fits, lt-ltb (k .maxIter) 1048576 max-iter-fits, lt-ltb (k .sweepLimit) 128 sweep-limit-fits, eq-eqb (length (k .numbers)) (numberCount (k .packed) (k .n) (k .m)) numbers-fits, count-is, le-leb count (length bytes) h) in
-                    let front : writtenCard k ≡ bytesOf count (cardBits k) = written-is k ∙ ap (λ (c : ℕ). bytesOf c (cardBits k)) count-is in
-                    record {
-                      answered = rw (yes, written-length k, count-is);
-                      bytes-left = rw (yes, front, bytes-of-length count (cardBits k)) e;
-                    }
+              pub written : (count : ℕ) → count ≡ bytesFor (23 + 16 * length (k .words) + 20 + 7 + 64 * length (k .numbers)) → count ≤ length bytes → (bytesLeft : List ℕ) → bytesLeft ≡ bytesOf count (cardBits k) ++ drop count bytes
+                  → WriteOutcome k bytes (Bytes count) bytesLeft
+              written count is h bytesLeft e =
+                  let same : bytesFor (length (cardBits k)) ≡ count = count-is ∙ sym is in
+                  let yes : isWritten k (length bytes) ≡ true = rw (le-leb (k .n) 32 n-fits, le-leb (k .m) 32 m-fits, le-leb (length (k .words)) 63 words-fits, lt-ltb (k .maxIter) 1048576 max-iter-fits, lt-ltb (k .sweepLimit) 128 sweep-limit-fits, eq-eqb (length (k .numbers)) (numberCount (k .packed) (k .n) (k .m)) numbers-fits, same, le-leb count (length bytes) h) in
+                  let front : writtenCard k ≡ bytesOf count (cardBits k) = written-is k ∙ ap (λ (c : ℕ). bytesOf c (cardBits k)) same in
+                  record {
+                    answered = rw (yes, written-length k, same);
+                    bytes-left = rw (yes, front, bytes-of-length count (cardBits k)) e;
+                  }

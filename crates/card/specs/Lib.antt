@@ -1,3 +1,4 @@
 pub mod Card
 pub mod Fields
 pub mod Outcome
+pub mod RoundTrip

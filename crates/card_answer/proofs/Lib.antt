@@ -1,3 +1,5 @@
 pub mod Numbers
 pub mod Outcome
 pub mod Texts
+pub mod Whole
+pub mod Enough

@@ -1,14 +1,12 @@
 -- Laws of a card's numbers, taken from a place on.
-use Prim.Native.Nat.{ℕ, zero, suc, _+_, _*_, _/_, _≤_, _<_}
-use native.Mathlib.Nat.{mul-le-mul, add-assoc}
+use Prim.Native.Nat.{ℕ, zero, suc, _+_, _<_}
 use native.Mathlib.Numerals.{add-one}
-use native.Mathlib.Omega.{arith}
-use mathlib.Core.Path.{_≡_, refl, sym, ap, _∙_}
+use mathlib.Core.Path.{_≡_, refl, sym, ap}
 use mathlib.Core.List.{List, [], _∷_, _++_}
 use lib.Ieee.{Float}
 use lib.ListN.{length, take, drop, getD, set}
 use lib.Seq.{drop-cons, append-snoc, set-at, take-at}
-use Rattle.rules.specs.Arithmetic.{tabulate, at}
+use Rattle.rules.specs.Arithmetic.{tabulate}
 use Rattle.card_answer.specs.Answer.{numberAt, numbersAt}
 
 tabulate-length : (n : ℕ) (f : ℕ → Float) → length (tabulate n f) ≡ n

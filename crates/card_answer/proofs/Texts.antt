@@ -1,6 +1,6 @@
 -- Laws of a text that grows in a buffer.
-use Prim.Native.Nat.{ℕ, zero, suc, _+_, _-_, _*_, _^_, _≤_, _<_}
-use native.Mathlib.Nat.{mul-suc, mul-zero, pow-le-pow-right}
+use Prim.Native.Nat.{ℕ, suc, _+_, _-_, _^_, _≤_, _<_}
+use native.Mathlib.Nat.{pow-le-pow-right}
 use native.Mathlib.Numerals.{add-one}
 use native.Mathlib.Omega.{arith}
 use mathlib.Core.Path.{_≡_, refl, sym, ap, _∙_}
@@ -8,11 +8,11 @@ use mathlib.Core.Bool.{Bool, true, false}
 use mathlib.Core.List.{List, [], _∷_, _++_, append-assoc, append-nil}
 use lib.Ieee.{Float, nan, binary64, toBits}
 use lib.Dec.{ltb}
-use lib.ListN.{length, take, drop, getD, set}
+use lib.ListN.{length, take, getD, set}
 use borrow.Author.Tests.{ltb-true, ltb-false}
 use lib.Seq.{take-suc, take-suc-set, take-length}
 use Rattle.io.specs.Digits.{digits, Fewest}
-use Rattle.card_answer.specs.Text.{newline, numberLine, numberLines, Numbered}
+use Rattle.card_answer.specs.Text.{newline, space, numberLine, numberLines, Numbered, FirstLine, Ended}
 
 -- ---- bytes put one after another
 
@@ -109,3 +109,26 @@ numbered-put n end last r word t₁ t₂ t₃ first few second third =
       is-number = record { places = last - end; fewest = few; spelled = refl };
       is = third ∙ rw (second, first);
     }
+
+-- ---- the first line, and x and y after it
+
+pub first-put : (k q e₁ e₂ e₃ e₄ r : ℕ) (name t₁ t₂ t₃ t₄ t₅ : List ℕ) → take e₁ t₁ ≡ name
+    → Fewest 10 1 k (e₂ - e₁)
+    → take e₂ t₂ ≡ take e₁ t₁ ++ digits 10 (e₂ - e₁) k
+    → take e₃ t₃ ≡ take e₂ t₂ ++ space
+    → Fewest 10 1 q (e₄ - e₃)
+    → take e₄ t₄ ≡ take e₃ t₃ ++ digits 10 (e₄ - e₃) q
+    → take r t₅ ≡ take e₄ t₄ ++ newline
+    → FirstLine name k q (take r t₅)
+first-put k q e₁ e₂ e₃ e₄ r name t₁ t₂ t₃ t₄ t₅ first few₁ second third few₂ fourth fifth =
+    record {
+      steps = digits 10 (e₂ - e₁) k;
+      rotations = digits 10 (e₄ - e₃) q;
+      is-steps = record { places = e₂ - e₁; fewest = few₁; spelled = refl };
+      is-rotations = record { places = e₄ - e₃; fewest = few₂; spelled = refl };
+      is = fifth ∙ rw (fourth, third, second, first);
+    }
+
+pub ended-put : (k q e₁ e₂ r : ℕ) (name t₁ t₂ t₃ : List ℕ) (x y : List Float) → FirstLine name k q (take e₁ t₁) → take e₂ t₂ ≡ take e₁ t₁ ++ numberLines x → take r t₃ ≡ take e₂ t₂ ++ numberLines y
+    → Ended name k q x y (take r t₃)
+ended-put k q e₁ e₂ r name t₁ t₂ t₃ x y line first second = record { first = take e₁ t₁; is-first = line; is = second ∙ rw first }

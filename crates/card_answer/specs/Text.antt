@@ -10,9 +10,10 @@ use Rattle.rules.specs.declared.Ending.{Ending}
 use Rattle.rules.specs.declared.Ending.the-variants.{BadParam, TooLarge, InvalidOp, BadCone, NotFinite, WorkShortage, Converged, ExcessIter, ExcessIterUnscaled, Unbounded, Infeasible, ConeFailure}
 use Rattle.rules.specs.Arithmetic.{+0}
 use Rattle.rules.specs.Run.{solutionX, solutionY}
-use Rattle.rules.specs.Refusals.{numberOf}
-use Rattle.card.specs.Card.{Card, Reading, fault, read, readCard}
-use Rattle.card_answer.specs.Answer.{problemOfCard, leftOf}
+use Rattle.card.specs.Card.{Reading, readCard}
+use Rattle.card_answer.specs.Answer.{toldOf, workAfter}
+use Rattle.card_answer.specs.declared.Told.{Told}
+use Rattle.card_answer.specs.declared.Told.the-variants.{Fault, Answered}
 
 abbrev pub newline : List ℕ
 newline = 10 ∷ []
@@ -40,13 +41,19 @@ pub record Numbered (word : List ℕ) (n : ℕ) (text : List ℕ) : Type 0 where
   pub is-number : Decimal n number
   pub is : text ≡ word ++ number ++ newline
 
--- "the ending's name, k and q, then x and y"; the name with a space after it
-pub record Ended (name : List ℕ) (k q : ℕ) (x y : List Float) (text : List ℕ) : Type 0 where
+-- "the ending's name, k and q" on a line; the name has a space after it
+pub record FirstLine (name : List ℕ) (k q : ℕ) (text : List ℕ) : Type 0 where
   pub steps : List ℕ
   pub rotations : List ℕ
   pub is-steps : Decimal k steps
   pub is-rotations : Decimal q rotations
-  pub is : text ≡ name ++ steps ++ space ++ rotations ++ newline ++ numberLines x ++ numberLines y
+  pub is : text ≡ name ++ steps ++ space ++ rotations ++ newline
+
+-- "then x and y"
+pub record Ended (name : List ℕ) (k q : ℕ) (x y : List Float) (text : List ℕ) : Type 0 where
+  pub first : List ℕ
+  pub is-first : FirstLine name k q first
+  pub is : text ≡ first ++ numberLines x ++ numberLines y
 
 -- "Card ", "Refused "
 abbrev pub card : List ℕ
@@ -85,15 +92,25 @@ AnswerText (Unbounded a) k q x y text = Ended unbounded k q x y text
 AnswerText (Infeasible a) k q x y text = Ended infeasible k q x y text
 AnswerText (ConeFailure b) k q x y text = Ended coneFailure k q x y text
 
+-- what is told, as text; and the n and m that it tells of
+abbrev pub ToldText : Told → List Float → List ℕ → Type 0
+ToldText (Fault f) work text = Numbered card f text
+ToldText (Answered n m e k q) work text = AnswerText e k q (solutionX n work) (solutionY m n work) text
+
+abbrev pub columnsOf : Told → ℕ
+columnsOf (Fault f) = 0
+columnsOf (Answered n m e k q) = n
+
+abbrev pub rowsOf : Told → ℕ
+rowsOf (Fault f) = 0
+rowsOf (Answered n m e k q) = m
+
 -- The places of work that are lent: enough for n and m of 32.
 abbrev pub workPlaces : ℕ
 workPlaces = 518
 
 abbrev pub CardText : Reading → List ℕ → Type 0
-CardText (fault f) text = Numbered card f text
-CardText (read k) text =
-    let left = leftOf (problemOfCard k) (replicate workPlaces +0) in
-    AnswerText (left .answer .ending) (left .answer .steps) (left .answer .rotations) (solutionX (k .n) (left .work)) (solutionY (k .m) (k .n) (left .work)) text
+CardText r text = ToldText (toldOf r (replicate workPlaces +0)) (workAfter r (replicate workPlaces +0)) text
 
 -- a buffer that holds the text of any card
 abbrev pub longest : ℕ

@@ -6,7 +6,7 @@ use replay::lines;
 // One byte more than the longest card has.
 const MOST: usize = 8862;
 
-// Reads a card and answers it: whether there was a whole one.
+// Reads a card and answers it: whether there was a whole one, and all of the answer was written.
 fn answer_one() -> bool {
     let mut head = [0u8; 8];
     if !lines::read(&mut head, 8) {
@@ -25,8 +25,7 @@ fn answer_rest(length: u64) -> bool {
     if !lines::read(&mut card, count) {
         return false;
     }
-    card_answer::write_answer(&card[0..count]);
-    true
+    card_answer::write_answer(&card[0..count])
 }
 
 // Answers so many cards, or up to one that can't be read: whether all were, and nothing follows.

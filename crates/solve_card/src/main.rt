@@ -36,7 +36,9 @@ fn solve(fd: i32, name: &[u8]) {
         os::fail(name);
         return;
     }
-    card_answer::write_answer(&bytes[..length]);
+    if !card_answer::write_answer(&bytes[..length]) {
+        os::fail(b"standard output");
+    }
 }
 
 // Whether the input has ended; after a read that failed, the next one fails too.

@@ -1,10 +1,7 @@
 -- `card_answer::text::put_numbered` meets its contract.
 use borrow.Author.Needs.{needs}
 use native.Mathlib.Omega.{arith}
-use Prim.Native.Nat.{ℕ, _+_, _-_, _*_, _≤_, _<_}
-use mathlib.Core.Path.{_≡_, refl, sym, ap, _∙_}
-use mathlib.Core.List.{List, _++_}
-use lib.ListN.{length, take}
+use Prim.Native.Nat.{_-_}
 use Rattle.card_answer.proofs.Texts.{numbered-put}
 use Rattle.card_answer.proofs.text.put_numbered.Statement.{statement}
 use Rattle.card_answer.proofs.text.put_numbered.Tie as tie
@@ -28,7 +25,7 @@ returns : tie.Need-returns
 returns c =
     let a = c .before .before .before .before .before .before .before .before .before .before .before .before .before .before .before .args in
     let d = c .before .before .before .before .before .before .before .put-decimal .ensures in
-    numbered-put (a .number) (c .before .before .before .before .before .before .before .before .before .before .before .put .result) (c .before .before .before .before .before .before .before .put-decimal .result) (c .before .before .put2 .result) (a .word .now) _ _ _ (c .before .before .before .before .before .before .before .before .before .before .before .put .ensures .1) (d .1 .1 .0) (d .1 .1 .1) (c .before .before .put2 .ensures .1)
+    (omega (arith, c .before .before .before .before .before .before .before .before .before .before .before .before .before .before .before .pre .0, c .before .before .before .before .before .before .before .before .before .before .before .put .ensures .0, d .1 .0, c .before .before .put2 .ensures .0), numbered-put (a .number) (c .before .before .before .before .before .before .before .before .before .before .before .put .result) (c .before .before .before .before .before .before .before .put-decimal .result) (c .before .before .put2 .result) (a .word .now) _ _ _ (c .before .before .before .before .before .before .before .before .before .before .before .put .ensures .1) (d .1 .1 .0) (d .1 .1 .1) (c .before .before .put2 .ensures .1))
 
 pub put-numbered-spec : {M : Type 1} → statement M
 put-numbered-spec =

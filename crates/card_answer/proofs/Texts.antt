@@ -33,7 +33,7 @@ put-all at i before text bytes e h = rw (h, take-length bytes) at e
 
 -- ---- a number's digits
 
-below : (b least most n k : ℕ) → 1 ≤ b → n < b ^ most → least ≤ most → (least < k → b ^ (k - 1) ≤ n) → k ≤ most
+pub below : (b least most n k : ℕ) → 1 ≤ b → n < b ^ most → least ≤ most → (least < k → b ^ (k - 1) ≤ n) → k ≤ most
 below b least most n k one small l few = go (ltb most k) refl
   where
     go : (longer : Bool) → ltb most k ≡ longer → k ≤ most

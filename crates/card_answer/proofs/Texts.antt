@@ -47,8 +47,8 @@ below b least most n k one small l few = go (ltb most k) refl
 pub decimal-places : (n k : ℕ) → n < 18446744073709551616 → Fewest 10 1 n k → k ≤ 20
 decimal-places n k small few = below 10 1 20 n k (omega arith) (omega arith) (omega arith) (few .2)
 
-pub hex-places : (n k : ℕ) → n < 18446744073709551616 → Fewest 16 16 n k → k ≡ 16
-hex-places n k small few = omega (arith, few .0, below 16 16 16 n k (omega arith) (omega arith) (omega arith) (few .2))
+pub hex-places : (least n k : ℕ) → Fewest 16 least n k → least ≤ 16 → n < 18446744073709551616 → k ≤ 16
+hex-places least n k few small below-all = below 16 least 16 n k (omega arith) (omega arith) small (few .2)
 
 -- ---- a number's decimal digits
 

@@ -1,7 +1,7 @@
 -- Any two texts that are allowed for a card coincide.
-use Prim.Native.Nat.{ℕ, _+_, _^_, _≤_, _<_}
+use Prim.Native.Nat.{ℕ, _+_, _≤_}
 use native.Mathlib.Omega.{arith}
-use mathlib.Core.Path.{_≡_, refl, sym, ap, _∙_}
+use mathlib.Core.Path.{_≡_, sym, ap, _∙_}
 use mathlib.Core.List.{List, _++_}
 use lib.Ieee.{Float}
 use lib.ListN.{length, take, replicate}
@@ -10,8 +10,8 @@ use Rattle.rules.specs.declared.Ending.{Ending}
 use Rattle.rules.specs.declared.Ending.the-variants.{BadParam, TooLarge, InvalidOp, BadCone, NotFinite, WorkShortage, Converged, ExcessIter, ExcessIterUnscaled, Unbounded, Infeasible, ConeFailure}
 use Rattle.rules.specs.Arithmetic.{+0}
 use Rattle.rules.specs.Run.{solutionX, solutionY}
-use Rattle.card.specs.Card.{Reading, readCard}
-use Rattle.card_answer.specs.Text.{newline, Decimal, Numbered, FirstLine, Ended, numberLines, AnswerText, ToldText, CardText, longest, workPlaces, TextOutcome}
+use Rattle.card.specs.Card.{readCard}
+use Rattle.card_answer.specs.Text.{newline, Decimal, Numbered, FirstLine, Ended, numberLines, AnswerText, ToldText, longest, workPlaces, TextOutcome}
 use Rattle.card_answer.specs.Answer.{toldOf, workAfter}
 use Rattle.card_answer.specs.declared.Told.{Told}
 use Rattle.card_answer.specs.declared.Told.the-variants.{Fault, Answered}

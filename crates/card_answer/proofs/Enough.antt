@@ -1,5 +1,5 @@
 -- The work that is lent is enough for any card: a card is never refused for want of it.
-use Prim.Native.Nat.{ℕ, zero, suc, _+_, _*_, _/_, _≤_, _<_, max}
+use Prim.Native.Nat.{ℕ, _+_, _*_, _/_, _≤_, _<_, max}
 use native.Mathlib.Nat.{mul-le-mul}
 use native.Mathlib.Omega.{arith}
 use mathlib.Core.Path.{_≡_, refl, sym, ap, _∙_}
@@ -17,9 +17,8 @@ use Rattle.rules.specs.Projections.{blockWork}
 use Rattle.rules.specs.Product.{coneWork}
 use Rattle.rules.specs.Problem.{Problem, blocks, workLength}
 use Rattle.rules.specs.Refusals.{badCone, workShortage, numberOf}
-use Rattle.rules.specs.Demands.{FirstToHold}
 use Rattle.rules.proofs.Demands.{turned-away-exactly}
-use Rattle.card.specs.Card.{Card, Reading, fault, read, readCard}
+use Rattle.card.specs.Card.{Card, read, readCard}
 use Rattle.card.specs.Outcome.{answerOf}
 use Rattle.card.proofs.Found.{n-most, m-most}
 use Rattle.card_answer.specs.Answer.{problemFrom, problemOfCard, leftOf}

@@ -1,11 +1,11 @@
 -- How a card's answer is shown: its fields make its problem, and what was read is the card.
-use Prim.Native.Nat.{ℕ, zero, suc, _+_, _-_, _≤_, _<_}
+use Prim.Native.Nat.{ℕ, zero, suc, _+_, _-_, _≤_}
 use native.Mathlib.Omega.{arith}
 use mathlib.Core.Path.{_≡_, refl, sym, ap, _∙_}
-use mathlib.Core.Bool.{Bool, true, false, cond}
+use mathlib.Core.Bool.{Bool, true}
 use mathlib.Core.List.{List, [], _∷_, _++_}
 use lib.Ieee.{Float}
-use lib.ListN.{length, take, drop, getD, replicate, length-replicate}
+use lib.ListN.{length, take, drop, getD, replicate}
 use lib.Seq.{take-at, getD-drop}
 use borrow.Author.Tests.{le-leb}
 use Rattle.rules.specs.declared.Answer.{Answer}
@@ -19,7 +19,7 @@ use Rattle.card.specs.Card.{Card, Reading, fault, read, numbersOfA, readCard}
 use Rattle.card.specs.Outcome.{answerOf, wordsAfter, numbersAfter, holdsAny, ReadOutcome}
 use Rattle.card.specs.declared.CardRead.{CardRead}
 use Rattle.card.specs.declared.CardRead.the-variants.{No, Fault as IsFault, Read}
-use Rattle.card_answer.specs.Answer.{numberAt, numbersAt, parametersOf, storageOf, problemFrom, toldOf, workAfter, leftOf, answeredOf, CardOutcome, FieldsOutcome}
+use Rattle.card_answer.specs.Answer.{numberAt, numbersAt, parametersOf, storageOf, problemFrom, toldOf, workAfter, CardOutcome, FieldsOutcome}
 use Rattle.card_answer.specs.declared.Told.{Told}
 use Rattle.card_answer.specs.declared.Told.the-variants.{Fault, Answered}
 

@@ -1,7 +1,7 @@
 -- What is told of a card: its sizes, and its text.
 use Prim.Native.Nat.{ℕ, _+_, _≤_, _<_}
 use native.Mathlib.Omega.{arith}
-use mathlib.Core.Path.{_≡_, refl, sym, ap, _∙_}
+use mathlib.Core.Path.{_≡_, refl, sym, ap}
 use mathlib.Core.Bool.{Bool, true, false, cond}
 use mathlib.Core.List.{List, []}
 use lib.Dec.{leb}
@@ -14,7 +14,7 @@ use Rattle.rules.specs.Run.{solutionX, solutionY}
 use Rattle.card.specs.Card.{Card, Reading, fault, read, readCard}
 use Rattle.card.specs.Outcome.{answerOf}
 use Rattle.card.proofs.Found.{n-most, m-most}
-use Rattle.card_answer.specs.Answer.{toldOf, workAfter, CardOutcome}
+use Rattle.card_answer.specs.Answer.{toldOf, CardOutcome}
 use Rattle.card_answer.specs.Text.{longest, workPlaces, columnsOf, rowsOf, ToldText, TextOutcome}
 use Rattle.card_answer.specs.declared.Told.{Told}
 

@@ -1,7 +1,7 @@
 -- `card_answer::answer` meets its contract: a fault, or the answer to the card that was read.
 use borrow.Author.Needs.{needs}
 use native.Mathlib.Omega.{arith}
-use mathlib.Core.Path.{_≡_, _∙_}
+use mathlib.Core.Path.{_∙_}
 use Rattle.card.proofs.Found.{n-most, m-most, count-most}
 use Rattle.card_answer.proofs.Outcome.{reading, words-read, numbers-read, no-outcome, fault-outcome, card-outcome}
 use Rattle.card_answer.proofs.answer.Statement.{statement}

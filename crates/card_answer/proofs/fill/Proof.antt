@@ -1,12 +1,12 @@
 -- `card_answer::fill` meets its contract: the front is filled, the rest is as it was.
 use borrow.Author.Needs.{needs}
 use native.Mathlib.Omega.{arith}
-use Prim.Native.Nat.{ℕ, _+_, _-_, _≤_, _<_}
-use mathlib.Core.Path.{_≡_, refl, sym, ap, _∙_}
-use mathlib.Core.List.{List, _++_}
+use Prim.Native.Nat.{ℕ, _+_, _-_, _≤_}
+use mathlib.Core.Path.{_≡_, refl, ap, _∙_}
+use mathlib.Core.List.{_++_}
 use lib.ListN.{length, drop, set, length-set}
 use Rattle.card_answer.specs.Answer.{numbersAt}
-use Rattle.card_answer.proofs.Numbers.{numbers-none, filled}
+use Rattle.card_answer.proofs.Numbers.{filled}
 use Rattle.card_answer.proofs.fill.Statement.{statement}
 use Rattle.card_answer.proofs.fill.Tie as tie
 

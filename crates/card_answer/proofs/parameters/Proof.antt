@@ -1,6 +1,5 @@
 -- `card_answer::parameters` meets its contract.
 use borrow.Author.Needs.{needs}
-use mathlib.Core.Path.{_≡_, refl}
 use Rattle.card_answer.specs.Answer.{parametersOf}
 use Rattle.card_answer.proofs.parameters.Statement.{statement}
 use Rattle.card_answer.proofs.parameters.Tie as tie

@@ -1,9 +1,9 @@
 -- `card_answer::text::put` meets its contract: the text grows by a byte a turn.
 use borrow.Author.Needs.{needs}
 use native.Mathlib.Omega.{arith}
-use Prim.Native.Nat.{ℕ, _+_, _-_, _≤_, _<_}
-use mathlib.Core.Path.{_≡_, refl, sym, ap, _∙_}
-use mathlib.Core.List.{List, _++_}
+use Prim.Native.Nat.{_+_, _-_, _≤_}
+use mathlib.Core.Path.{_≡_, refl}
+use mathlib.Core.List.{_++_}
 use lib.ListN.{length, take, set, length-set}
 use Rattle.card_answer.proofs.Texts.{put-none, put-more, put-all}
 use Rattle.card_answer.proofs.text.put.Statement.{statement}

@@ -1,10 +1,9 @@
 -- `card_answer::text::put_number` meets its contract.
 use borrow.Author.Needs.{needs}
 use native.Mathlib.Omega.{arith}
-use Prim.Native.Nat.{ℕ, _+_, _-_, _*_, _≤_, _<_}
-use mathlib.Core.Path.{_≡_, refl, sym, ap, _∙_}
-use mathlib.Core.List.{List, _++_}
-use lib.ListN.{length, take}
+use Prim.Native.Nat.{ℕ, _-_}
+use mathlib.Core.Path.{ap, _∙_}
+use lib.ListN.{length}
 use Rattle.card_answer.proofs.Texts.{hex-places, number-put}
 use Rattle.io.specs.Digits.{digits}
 use Rattle.card_answer.proofs.text.put_number.Statement.{statement}

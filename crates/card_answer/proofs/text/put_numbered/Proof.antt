@@ -1,10 +1,8 @@
 -- `card_answer::text::put_numbered` meets its contract.
 use borrow.Author.Needs.{needs}
 use native.Mathlib.Omega.{arith}
-use Prim.Native.Nat.{ℕ, _+_, _-_, _*_, _≤_, _<_}
-use mathlib.Core.Path.{_≡_, refl, sym, ap, _∙_}
-use mathlib.Core.List.{List, _++_}
-use lib.ListN.{length, take}
+use Prim.Native.Nat.{_-_}
+use lib.ListN.{length}
 use Rattle.card_answer.proofs.Texts.{numbered-put}
 use Rattle.card_answer.proofs.text.put_numbered.Statement.{statement}
 use Rattle.card_answer.proofs.text.put_numbered.Tie as tie

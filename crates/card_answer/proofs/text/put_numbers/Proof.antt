@@ -1,9 +1,9 @@
 -- `card_answer::text::put_numbers` meets its contract: the text grows by a line a turn.
 use borrow.Author.Needs.{needs}
 use native.Mathlib.Omega.{arith}
-use Prim.Native.Nat.{ℕ, _+_, _-_, _*_, _≤_, _<_}
-use mathlib.Core.Path.{_≡_, refl, sym, ap, _∙_}
-use mathlib.Core.List.{List, _++_}
+use Prim.Native.Nat.{_+_, _-_, _*_, _≤_}
+use mathlib.Core.Path.{_≡_, refl}
+use mathlib.Core.List.{_++_}
 use lib.ListN.{length, take}
 use Rattle.card_answer.specs.Text.{numberLines}
 use Rattle.card_answer.proofs.Texts.{lines-none, lines-more, lines-all}

@@ -3,3 +3,5 @@ pub mod Outcome
 pub mod Texts
 pub mod Whole
 pub mod Enough
+pub mod Coincide
+pub mod EmptyCard

@@ -33,7 +33,7 @@ put-all at i before text bytes e h = rw (h, take-length bytes) at e
 
 -- ---- a number's digits
 
-below : (b least most n k : ℕ) → 1 ≤ b → n < b ^ most → least ≤ most → (least < k → b ^ (k - 1) ≤ n) → k ≤ most
+pub below : (b least most n k : ℕ) → 1 ≤ b → n < b ^ most → least ≤ most → (least < k → b ^ (k - 1) ≤ n) → k ≤ most
 below b least most n k one small l few = go (ltb most k) refl
   where
     go : (longer : Bool) → ltb most k ≡ longer → k ≤ most
@@ -47,8 +47,8 @@ below b least most n k one small l few = go (ltb most k) refl
 pub decimal-places : (n k : ℕ) → n < 18446744073709551616 → Fewest 10 1 n k → k ≤ 20
 decimal-places n k small few = below 10 1 20 n k (omega arith) (omega arith) (omega arith) (few .2)
 
-pub hex-places : (n k : ℕ) → n < 18446744073709551616 → Fewest 16 16 n k → k ≡ 16
-hex-places n k small few = omega (arith, few .0, below 16 16 16 n k (omega arith) (omega arith) (omega arith) (few .2))
+pub hex-places : (least n k : ℕ) → Fewest 16 least n k → least ≤ 16 → n < 18446744073709551616 → k ≤ 16
+hex-places least n k few small below-all = below 16 least 16 n k (omega arith) (omega arith) small (few .2)
 
 -- ---- a number's decimal digits
 

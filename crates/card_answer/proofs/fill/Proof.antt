@@ -4,7 +4,7 @@ use native.Mathlib.Omega.{arith}
 use Prim.Native.Nat.{ℕ, _+_, _-_, _≤_}
 use mathlib.Core.Path.{_≡_, refl, ap, _∙_}
 use mathlib.Core.List.{_++_}
-use lib.ListN.{length, drop, length-set}
+use lib.ListN.{length, drop, set, length-set}
 use Rattle.card_answer.specs.Answer.{numbersAt}
 use Rattle.card_answer.proofs.Numbers.{filled}
 use Rattle.card_answer.proofs.fill.Statement.{statement}

@@ -4,7 +4,7 @@ use native.Mathlib.Omega.{arith}
 use Prim.Native.Nat.{_+_, _-_, _≤_}
 use mathlib.Core.Path.{_≡_, refl}
 use mathlib.Core.List.{_++_}
-use lib.ListN.{length, take, length-set}
+use lib.ListN.{length, take, set, length-set}
 use Rattle.card_answer.proofs.Texts.{put-none, put-more, put-all}
 use Rattle.card_answer.proofs.text.put.Statement.{statement}
 use Rattle.card_answer.proofs.text.put.Tie as tie

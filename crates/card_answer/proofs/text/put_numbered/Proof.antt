@@ -2,6 +2,7 @@
 use borrow.Author.Needs.{needs}
 use native.Mathlib.Omega.{arith}
 use Prim.Native.Nat.{_-_}
+use lib.ListN.{length}
 use Rattle.card_answer.proofs.Texts.{numbered-put}
 use Rattle.card_answer.proofs.text.put_numbered.Statement.{statement}
 use Rattle.card_answer.proofs.text.put_numbered.Tie as tie

@@ -17,7 +17,6 @@ ghost use Rattle.rules.specs.Refusals.{SolveOutcome};
 ghost use Rattle.card.specs.Card.{numbersOfA};
 ghost use Rattle.card_answer.specs.Answer.{numbersAt, parametersOf, storageOf, problemFrom, FieldsOutcome, CardOutcome};
 pub use lines::write_answer;
-pub use text::answer_text;
 
 // The card's fault; or n and m, how its problem ended or why it was turned away, k and q.
 pub enum Told {

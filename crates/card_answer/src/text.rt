@@ -146,7 +146,7 @@ fn put_answer(
 
 // Puts what the program writes for a card at the start of a buffer, and answers how many bytes that is.
 // Where the buffer may be too short, it answers 0 and changes nothing.
-pub fn answer_text(card: &[u8], text: &mut [u8]) -> usize
+pub(crate) fn answer_text(card: &[u8], text: &mut [u8]) -> usize
     ensures { λ r. ⌜ Counts r (now (text .exit)) ⌝ }
     ensures { λ r. ⌜ TextOutcome (now (card .entry)) (now (text .entry)) r (now (text .exit)) ⌝ }
 {

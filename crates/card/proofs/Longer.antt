@@ -1,4 +1,4 @@
--- A file that is longer than any card has the fault that its first 8862 bytes have.
+-- A file that is longer than any card has the fault that its first bytes have, of which there are enough.
 use Prim.Native.Nat.{ℕ, zero, suc, _+_, _*_, _≤_}
 use native.Mathlib.Nat.{mul-suc}
 use native.Mathlib.Omega.{arith}
@@ -9,7 +9,7 @@ use lib.Dec.{leb, eqb}
 use lib.ListN.{length, take, drop, length-drop, take-append-drop}
 use lib.Seq.{length-take-le, take-nil, take-append-le, take-append-add, drop-append-le}
 use borrow.Author.Tests.{leb-true, le-leb, eqb-true, eqb-false}
-use Rattle.card.specs.Card.{bitsOf, bitsOfBytes, Reading, fault, readCard, numberCount}
+use Rattle.card.specs.Card.{bitsOf, bitsOfBytes, Reading, fault, readCard, numberCount, enough}
 use Rattle.card.specs.Fields.{fieldAt, bitCount, restAt}
 use Rattle.card.proofs.Bits.{bitsOf-length, bits-length}
 use Rattle.card.proofs.Binary.{Binary, bytes-binary, take-binary, field-below}
@@ -95,11 +95,11 @@ module _ (bits : List ℕ) (len : ℕ) (b : Binary bits) (whole : length bits �
       sizes-inside (take 70896 bits) (rw front-length (omega arith))
       ∙ rw (same-field 0 4 (omega arith), same-field 5 6 (omega arith), same-field 11 6 (omega arith), if-small n m (restAt n m (take 70896 bits)) (restAt n m bits) (same-rest n m)) (sym (sizes-inside bits (omega (arith, inside))))
 
-pub read-short-of : (bytes : List ℕ) → 8862 ≤ length bytes → readCard (take 8862 bytes) ≡ readCard bytes
+pub read-short-of : (bytes : List ℕ) → enough ≤ length bytes → readCard (take enough bytes) ≡ readCard bytes
 read-short-of bytes h =
-    let cut : bitsOfBytes (take 8862 bytes) ≡ take 70896 (bitsOfBytes bytes) = cut-bytes 8862 bytes in
+    let cut : bitsOfBytes (take enough bytes) ≡ take 70896 (bitsOfBytes bytes) = cut-bytes enough bytes in
     let binary : Binary (take 70896 (bitsOfBytes bytes)) = take-binary 70896 (bitsOfBytes bytes) (bytes-binary bytes) in
-    card-by-places (take 8862 bytes)
+    card-by-places (take enough bytes)
     ∙ ap (λ (l : List ℕ). byPlaces l) cut
     ∙ same-reading (bitsOfBytes bytes) (length bytes) (bytes-binary bytes) (bits-length bytes) h binary
     ∙ sym (card-by-places bytes)

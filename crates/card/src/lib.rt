@@ -1,11 +1,11 @@
 // A problem as a card file: bits, the most significant first, read into words and numbers and written back.
 mod digits;
-mod front;
+mod enough;
 mod reader;
 mod writer;
 
-pub use front::ENOUGH;
-pub use front::front_length;
+pub use enough::ENOUGH;
+pub use enough::front_length;
 pub use reader::read_card;
 pub use writer::write_card;
 

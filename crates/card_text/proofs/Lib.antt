@@ -1,0 +1,4 @@
+pub mod Texts
+pub mod Whole
+pub mod Coincide
+pub mod EmptyCard

@@ -460,8 +460,12 @@ def card_of_text(data):
 
 
 def read_file(name, most=-1):
-    with open(name, "rb") as file:
-        return file.read(most)
+    """The bytes of a file, or the first of them; - is standard input."""
+    try:
+        with open(0 if name == "-" else name, "rb") as file:
+            return file.read(most)
+    except OSError as wrong:
+        raise Wrong(f"{'standard input' if name == '-' else name}: {wrong.strerror}") from None
 
 
 def write_out(data):
@@ -488,5 +492,4 @@ def said(wrong):
     """An exception in words."""
     if not isinstance(wrong, OSError):
         return str(wrong)
-    name = "standard input" if wrong.filename == 0 else wrong.filename
-    return wrong.strerror if name is None else f"{name}: {wrong.strerror}"
+    return wrong.strerror if wrong.filename is None else f"{wrong.filename}: {wrong.strerror}"

@@ -40,10 +40,10 @@ REFUSALS = {
     6: "too little room to work in (WorkShortage)",
 }
 ENDINGS = {
-    "Converged": "x and y are the solution, within the tolerances.",
+    "Converged": "x and y pass the tests of a solution, within eps_acc.",
     "ExcessIter": "the steps ran out; x and y are where they stood, and no solution.",
-    "Unbounded": "x is a direction along which c·x falls; x is not scaled.",
-    "Infeasible": "y is the reason: Aᵀy is nearly 0 and b·y is below 0; y is not scaled.",
+    "Unbounded": "x passes the test of a direction along which c·x falls without end; x is not scaled.",
+    "Infeasible": "y passes the test of a reason why no x fits: Aᵀy is nearly 0, b·y is below 0; y is not scaled.",
     "ConeFailure": "a semidefinite block did not come to an end within the sweep limit; x and y are 0.",
 }
 

@@ -129,16 +129,16 @@ unfoldable pub writtenCard : Card → List ℕ
 unfolding cardBits bytesOf
 writtenCard k = bytesOf (bytesFor (length (cardBits k))) (cardBits k)
 
--- ---- a file that is longer than any card
+-- ---- how much of a file tells its card
 
 -- the bytes of the longest card: 63 words, and n and m of 32, not packed
 abbrev pub longestCard : ℕ
-longestCard = bytesFor (4 + 1 + 6 + 6 + 6 + 16 * 63 + 20 + 7 + 64 * (3 + 32 + 32 * 32 + 32))
+longestCard = bytesFor (4 + 1 + 6 + 6 + 6 + 16 * 63 + 20 + 7 + 64 * numberCount false 32 32)
 
--- so many bytes of any file tell its card: one more than the longest has
+-- one byte more shows that a file is longer than any card
 abbrev pub enough : ℕ
 enough = longestCard + 1
 
--- how many of a file of that length are read: all, or that many
+-- of a file of so many bytes: all, or enough
 abbrev pub frontLength : ℕ → ℕ
-frontLength length = min length enough
+frontLength bytes = min bytes enough

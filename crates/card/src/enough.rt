@@ -2,7 +2,7 @@
 ghost use mathlib.Core.Path.{_≡_};
 ghost use Rattle.card.specs.Card.{frontLength};
 
-// So many bytes of any file tell its card: one more than the longest card has.
+// So many bytes of any file tell its card, one more than the longest card has.
 pub const ENOUGH: usize = 8862;
 
 // How many bytes of a file of this length tell its card.

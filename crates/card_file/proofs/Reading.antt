@@ -14,9 +14,9 @@ use Rattle.card_file.specs.Front.{FrontOutcome}
 abbrev after : ℕ → List ℕ → List ℕ → List ℕ
 after count before ys = ys ++ drop (count - 0) (drop 0 before)
 
-pub front-read : (fileLength count r : ℕ) (before ys : List ℕ) → count ≡ frontLength fileLength → count ≤ length before → length ys ≡ count - 0 → r ≤ length ys
-    → Counts r (after count before ys) × FrontOutcome fileLength before r (after count before ys)
-front-read fileLength count r before ys is fits as-many within =
+pub front-read : (most count r : ℕ) (before ys : List ℕ) → count ≡ frontLength most → count ≤ length before → length ys ≡ count - 0 → r ≤ length ys
+    → Counts r (after count before ys) × FrontOutcome most before r (after count before ys)
+front-read most count r before ys is fits as-many within =
     let inside : r ≤ length (after count before ys) = rw (length-append ys (drop (count - 0) (drop 0 before))) (omega arith) in (
       (inside, sym (length-take-le r (after count before ys) inside)),
       record {
@@ -26,5 +26,5 @@ front-read fileLength count r before ys is fits as-many within =
       },
     )
 
-pub front-too-short : (fileLength : ℕ) (before : List ℕ) → length before < frontLength fileLength → FrontOutcome fileLength before 0 before
-front-too-short fileLength before h = record { too-short = λ _. (refl, refl); within = omega arith; kept = refl }
+pub front-too-short : (most : ℕ) (before : List ℕ) → length before < frontLength most → FrontOutcome most before 0 before
+front-too-short most before h = record { too-short = λ _. (refl, refl); within = omega arith; kept = refl }

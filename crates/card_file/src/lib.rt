@@ -1,15 +1,14 @@
 // The front of a card file, read into a buffer: as much as tells its card.
-ghost use lib.ListN.{length};
 ghost use Rattle.io.specs.Counts.{Counts};
 ghost use Rattle.card_file.specs.Front.{FrontOutcome};
 
-// Reads the front of a file that has so many bytes, or all of one that has fewer, and answers how many
-// bytes were read, to the start of the buffer. A buffer that may be too short is left alone, and 0 answered.
-pub fn read_front(fd: i32, length: usize, bytes: &mut [u8]) -> usize
+// Reads the front of a file that has at most so many bytes to the start of a buffer, and answers how many bytes
+// there are. A buffer that may be too short is left alone, and 0 answered.
+pub fn read_front(fd: i32, most: usize, bytes: &mut [u8]) -> usize
     ensures { λ r. ⌜ Counts r (now (bytes .exit)) ⌝ }
-    ensures { λ r. ⌜ FrontOutcome length (now (bytes .entry)) r (now (bytes .exit)) ⌝ }
+    ensures { λ r. ⌜ FrontOutcome most (now (bytes .entry)) r (now (bytes .exit)) ⌝ }
 {
-    let count = card::front_length(length);
+    let count = card::front_length(most);
     if bytes.len() < count {
         return 0;
     }

@@ -15,7 +15,7 @@ use Rattle.rules.specs.declared.Ending.the-variants.{BadParam, TooLarge, Invali
 use Rattle.rules.specs.Arithmetic.{+0}
 use Rattle.rules.specs.Run.{solutionX, solutionY}
 use Rattle.card.specs.Card.{readCard}
-use Rattle.card_text.specs.Text.{newline, Decimal, Numbered, FirstLine, Ended, numberLines, AnswerText, ToldText, CardText, Says, longest, TextOutcome}
+use Rattle.card_text.specs.Text.{newline, Decimal, Numbered, FirstLine, Ended, numberLines, AnswerText, ToldText, CardText, Says, textRoom, TextOutcome}
 use Rattle.card_answer.specs.Answer.{workPlaces, toldOf, workAfter}
 use Rattle.card_answer.specs.declared.Told.{Told}
 use Rattle.card_answer.specs.declared.Told.the-variants.{Fault, Answered}
@@ -72,14 +72,14 @@ same-buffer before j k after after' same fronts d e =
     ∙ rw (fronts, d, same, ← e) (take-append-drop k after')
 
 pub any-two-texts-coincide : (bytes before : List ℕ) (j k : ℕ) (after after' : List ℕ) → TextOutcome bytes before j after → TextOutcome bytes before k after' → (j ≡ k) × (after ≡ after')
-any-two-texts-coincide bytes before j k after after' d e = go (ltb (length before) longest) refl
+any-two-texts-coincide bytes before j k after after' d e = go (ltb (length before) textRoom) refl
   where
-    go : (short : Bool) → ltb (length before) longest ≡ short → (j ≡ k) × (after ≡ after')
+    go : (short : Bool) → ltb (length before) textRoom ≡ short → (j ≡ k) × (after ≡ after')
     go true s =
-        let h : length before < longest = ltb-true (length before) longest s in
+        let h : length before < textRoom = ltb-true (length before) textRoom s in
         (d .too-short h .0 ∙ sym (e .too-short h .0), d .too-short h .1 ∙ sym (e .too-short h .1))
     go false s =
-        let h : longest ≤ length before = ltb-false (length before) longest s in
+        let h : textRoom ≤ length before = ltb-false (length before) textRoom s in
         let fronts : take j after ≡ take k after' = same-text bytes before j k after after' (d .written h) (e .written h) in
         let same : j ≡ k = sym (length-take-le j after (d .inside)) ∙ ap length fronts ∙ length-take-le k after' (e .inside) in
         (same, same-buffer before j k after after' same fronts (d .written h .kept) (e .written h .kept))

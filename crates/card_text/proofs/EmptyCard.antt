@@ -13,7 +13,7 @@ use Rattle.rules.specs.Run.{solutionX, solutionY}
 use Rattle.rules.specs.Refusals.{solved}
 use Rattle.card.specs.Card.{readCard}
 use Rattle.card_answer.specs.Answer.{workPlaces, problemFrom, toldOf, workAfter}
-use Rattle.card_text.specs.Text.{numberLines, AnswerText, ToldText, longest, TextOutcome}
+use Rattle.card_text.specs.Text.{numberLines, AnswerText, ToldText, textRoom, TextOutcome}
 use Rattle.card_text.specs.EmptyCard.{emptyCard, theLine}
 use Rattle.card_answer.specs.declared.Told.the-variants.{Answered}
 use Rattle.card_text.proofs.Coincide.{same-told}
@@ -50,7 +50,7 @@ allowed work =
       is = rw (x-none work, y-none work);
     }
 
-pub the-empty-problem : (before : List ℕ) (count : ℕ) (after : List ℕ) → longest ≤ length before → TextOutcome emptyCard before count after → take count after ≡ theLine
+pub the-empty-problem : (before : List ℕ) (count : ℕ) (after : List ℕ) → textRoom ≤ length before → TextOutcome emptyCard before count after → take count after ≡ theLine
 the-empty-problem before count after h o =
     let work = workAfter (readCard emptyCard) (replicate workPlaces +0) in
     let text : ToldText (Answered 0 0 (Converged +0 +0 +0) 1 0) work (take count after) = rw told-of-empty at (o .written h .said) in

@@ -2,3 +2,4 @@ pub mod Texts
 pub mod Whole
 pub mod Coincide
 pub mod EmptyCard
+pub mod AnyNan

@@ -12,7 +12,8 @@ use lib.ListN.{length, take, drop, getD, set}
 use borrow.Author.Tests.{ltb-true, ltb-false}
 use lib.Seq.{take-suc, take-suc-set, take-length, drop-drop, drop-set-lt}
 use Rattle.io.specs.Digits.{digits, Fewest}
-use Rattle.card_text.specs.Text.{newline, space, numberLine, numberLines, Numbered, FirstLine, Ended, Grown, Says}
+use Rattle.card_text.specs.Text.{newline, space, numberLine, numberLines, Numbered, FirstLine, Ended, Says}
+use Rattle.card_text.specs.Growing.{Grown}
 
 -- ---- the places after a text are kept
 

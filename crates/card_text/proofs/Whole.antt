@@ -15,7 +15,8 @@ use Rattle.card.specs.Card.{Reading, fault, read, readCard}
 use Rattle.card.specs.Outcome.{answerOf}
 use Rattle.card.proofs.Found.{n-most, m-most}
 use Rattle.card_answer.specs.Answer.{workPlaces, toldOf, CardOutcome}
-use Rattle.card_text.specs.Text.{longest, columnsOf, rowsOf, ToldText, Says, TextOutcome}
+use Rattle.card_text.specs.Text.{textRoom, ToldText, Says, TextOutcome}
+use Rattle.card_text.specs.Growing.{columnsOf, rowsOf}
 use Rattle.card_answer.specs.declared.Told.{Told}
 
 -- ---- x and y are no longer than n and m
@@ -50,13 +51,13 @@ rows-within bytes work told e = rw e (rows bytes work (readCard bytes) refl)
 
 -- ---- the whole text
 
-pub counts : (count : ℕ) (text : List ℕ) → count ≤ longest → longest ≤ length text → Counts count text
+pub counts : (count : ℕ) (text : List ℕ) → count ≤ textRoom → textRoom ≤ length text → Counts count text
 counts count text h g = (omega arith, sym (length-take-le count text (omega arith)))
 
-pub text-too-short : (bytes before : List ℕ) → length before < longest → TextOutcome bytes before 0 before
+pub text-too-short : (bytes before : List ℕ) → length before < textRoom → TextOutcome bytes before 0 before
 text-too-short bytes before h = record { inside = omega arith; too-short = λ _. (refl, refl); written = λ g. absurd (omega arith) }
 
-pub text-written : (bytes before : List ℕ) (told : Told) (work' : List Float) (count : ℕ) (after : List ℕ) → longest ≤ length before → count ≤ length after
+pub text-written : (bytes before : List ℕ) (told : Told) (work' : List Float) (count : ℕ) (after : List ℕ) → textRoom ≤ length before → count ≤ length after
     → CardOutcome bytes (replicate workPlaces +0) told work'
     → Says (ToldText told work') before count after
     → TextOutcome bytes before count after

@@ -78,6 +78,7 @@ infeasible = 73 ∷ 110 ∷ 102 ∷ 101 ∷ 97 ∷ 115 ∷ 105 ∷ 98 ∷ 108 �
 abbrev pub coneFailure : List ℕ
 coneFailure = 67 ∷ 111 ∷ 110 ∷ 101 ∷ 70 ∷ 97 ∷ 105 ∷ 108 ∷ 117 ∷ 114 ∷ 101 ∷ 32 ∷ []
 
+-- "`Refused N`", with document 01's number, "or the ending's name", which is ExcessIter in both its cases
 abbrev pub AnswerText : Ending → ℕ → ℕ → List Float → List Float → List ℕ → Type 0
 AnswerText BadParam k q x y = Numbered refused 1
 AnswerText TooLarge k q x y = Numbered refused 2
@@ -92,40 +93,28 @@ AnswerText (Unbounded a) k q x y = Ended unbounded k q x y
 AnswerText (Infeasible a) k q x y = Ended infeasible k q x y
 AnswerText (ConeFailure b) k q x y = Ended coneFailure k q x y
 
--- what is told, as text; and the n and m that it tells of
+-- what is told, as text
 abbrev pub ToldText : Told → List Float → List ℕ → Type 0
 ToldText (Fault f) work = Numbered card f
 ToldText (Answered n m e k q) work = AnswerText e k q (solutionX n work) (solutionY m n work)
 
-abbrev pub columnsOf : Told → ℕ
-columnsOf (Fault f) = 0
-columnsOf (Answered n m e k q) = n
-
-abbrev pub rowsOf : Told → ℕ
-rowsOf (Fault f) = 0
-rowsOf (Answered n m e k q) = m
-
+-- "The program writes .." for a card that is read so: what is told of it over zeroed work
 abbrev pub CardText : Reading → List ℕ → Type 0
 CardText r = ToldText (toldOf r (replicate workPlaces +0)) (workAfter r (replicate workPlaces +0))
 
 -- ---- text in a buffer
-
--- so many bytes of a buffer are those before a place and then a part, and the others are kept
-pub record Grown (at : ℕ) (before part : List ℕ) (count : ℕ) (after : List ℕ) : Type 0 where
-  pub text : take count after ≡ take at before ++ part
-  pub kept : drop count after ≡ drop count before
 
 -- so many bytes of a buffer say something, and the others are kept
 pub record Says (something : List ℕ → Type 0) (before : List ℕ) (count : ℕ) (after : List ℕ) : Type 0 where
   pub said : something (take count after)
   pub kept : drop count after ≡ drop count before
 
--- a buffer that holds the text of any card
-abbrev pub longest : ℕ
-longest = 1200
+-- A buffer of so many bytes holds the text of any card, and a few more.
+abbrev pub textRoom : ℕ
+textRoom = 1200
 
--- so many bytes, inside the buffer, are the card's text, and the others are kept; a buffer that may be too short is kept, and none are
+-- The first bytes are the card's text, and all after them are kept. A buffer without that room is kept whole, and its text is of no bytes.
 pub record TextOutcome (bytes before : List ℕ) (count : ℕ) (after : List ℕ) : Type 0 where
   pub inside : count ≤ length after
-  pub too-short : length before < longest → (count ≡ 0) × (after ≡ before)
-  pub written : longest ≤ length before → Says (CardText (readCard bytes)) before count after
+  pub too-short : length before < textRoom → (count ≡ 0) × (after ≡ before)
+  pub written : textRoom ≤ length before → Says (CardText (readCard bytes)) before count after

@@ -3,7 +3,8 @@ ghost use Prim.Native.Nat.{_+_, _-_, _*_, _≤_};
 ghost use mathlib.Core.Path.{_≡_};
 ghost use lib.ListN.{length};
 ghost use Rattle.io.specs.Digits.{digits, Fewest};
-ghost use Rattle.card_text.specs.Text.{Grown, numberLine, numberLines};
+ghost use Rattle.card_text.specs.Text.{numberLine, numberLines};
+ghost use Rattle.card_text.specs.Growing.{Grown};
 
 // Puts bytes at a place, and answers the place after them.
 pub(crate) fn put(text: &mut [u8], at: usize, bytes: &[u8]) -> usize

@@ -11,10 +11,11 @@ use rules::Rows;
 ghost use Prim.Native.Nat.{_≤_};
 ghost use lib.ListN.{length};
 ghost use Rattle.io.specs.Counts.{Counts};
-ghost use Rattle.card_text.specs.Text.{Says, AnswerText, columnsOf, rowsOf, ToldText, TextOutcome};
+ghost use Rattle.card_text.specs.Text.{Says, AnswerText, ToldText, TextOutcome};
+ghost use Rattle.card_text.specs.Growing.{columnsOf, rowsOf};
 
-// How long the text of a card may be, and a little more.
-pub const LONGEST: usize = 1200;
+// A buffer of so many bytes holds the text of any card, and a few more.
+pub const TEXT_ROOM: usize = 1200;
 
 // Puts the answer to a card without a fault.
 fn put_answer(
@@ -78,7 +79,7 @@ pub fn answer_text(card: &[u8], text: &mut [u8]) -> usize
     ensures { λ r. ⌜ Counts r (now (text .exit)) ⌝ }
     ensures { λ r. ⌜ TextOutcome (now (card .entry)) (now (text .entry)) r (now (text .exit)) ⌝ }
 {
-    if text.len() < LONGEST {
+    if text.len() < TEXT_ROOM {
         return 0;
     }
     let mut work = [0.0; card_answer::WORK];

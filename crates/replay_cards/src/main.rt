@@ -20,7 +20,7 @@ fn answer_rest(length: u64) -> bool {
     if count as u64 != length {
         return false;
     }
-    let mut text = [0u8; card_text::LONGEST];
+    let mut text = [0u8; card_text::TEXT_ROOM];
     let end = card_text::answer_text(&card[..count], &mut text);
     io::write_all(STDOUT_FILENO, &text[..end])
 }

@@ -54,7 +54,7 @@ fn solve(fd: i32, name: &[u8]) {
         os::fail(name);
         return;
     }
-    let mut text = [0u8; card_text::LONGEST];
+    let mut text = [0u8; card_text::TEXT_ROOM];
     let end = card_text::answer_text(&bytes[..length], &mut text);
     if !io::write_all(STDOUT_FILENO, &text[..end]) {
         os::fail(b"standard output");

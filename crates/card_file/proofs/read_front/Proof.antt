@@ -12,7 +12,7 @@ front-length-requires c κs = search needs
 returns : tie.Need-returns
 returns c =
     let a = c .before .before .before .args in
-    ((omega arith, refl), front-too-short (a .length) (a .bytes .now) (omega arith))
+    ((omega arith, refl), front-too-short (a .most) (a .bytes .now) (omega arith))
 
 sub-read-full : tie.Need-sub-read-full
 sub-read-full c = search needs
@@ -34,7 +34,7 @@ returns-2 c =
     let a = c .before .before .before .before .before .before .before .args in
     let f = c .before .before .before .before .before .front-length in
     let g = c .before .before .read-full in
-    front-read (a .length) (f .result) (g .result) (a .bytes .now) (g .last .1 .0) (f .ensures) (omega arith) (omega (arith, g .kept)) (g .ensures .0)
+    front-read (a .most) (f .result) (g .result) (a .bytes .now) (g .last .1 .0) (f .ensures) (omega arith) (omega (arith, g .kept)) (g .ensures .0)
 
 pub read-front-spec : {M : Type 1} → statement M
 read-front-spec =

@@ -3,8 +3,8 @@ use borrow.Author.Needs.{needs}
 use native.Mathlib.Omega.{arith}
 use Prim.Native.Nat.{_+_, _-_, _≤_}
 use mathlib.Core.Path.{_≡_, refl}
-use lib.ListN.{length, take, set, length-set}
-use Rattle.card_text.specs.Text.{Grown}
+use lib.ListN.{length, take, length-set}
+use Rattle.card_text.specs.Growing.{Grown}
 use Rattle.card_text.proofs.Texts.{put-none, put-more, put-all}
 use Rattle.card_text.proofs.bytes.put.Statement.{statement}
 use Rattle.card_text.proofs.bytes.put.Tie as tie

@@ -1,8 +1,6 @@
 -- `card_text::bytes::put_decimal` meets its contract.
 use borrow.Author.Needs.{needs}
 use native.Mathlib.Omega.{arith}
-use Prim.Native.Nat.{_-_}
-use lib.ListN.{length}
 use Rattle.card_text.proofs.Texts.{decimal-places, decimal-put}
 use Rattle.card_text.proofs.bytes.put_decimal.Statement.{statement}
 use Rattle.card_text.proofs.bytes.put_decimal.Tie as tie

@@ -1,9 +1,8 @@
 -- `card_text::bytes::put_number` meets its contract.
 use borrow.Author.Needs.{needs}
 use native.Mathlib.Omega.{arith}
-use Prim.Native.Nat.{ℕ, _-_}
+use Prim.Native.Nat.{ℕ}
 use mathlib.Core.Path.{ap, _∙_}
-use lib.ListN.{length}
 use Rattle.card_text.proofs.Texts.{hex-places, number-put}
 use Rattle.io.specs.Digits.{digits}
 use Rattle.card_text.proofs.bytes.put_number.Statement.{statement}

@@ -4,7 +4,8 @@ use native.Mathlib.Omega.{arith}
 use Prim.Native.Nat.{_+_, _-_, _*_, _≤_}
 use mathlib.Core.Path.{_≡_, refl}
 use lib.ListN.{length, take}
-use Rattle.card_text.specs.Text.{numberLines, Grown}
+use Rattle.card_text.specs.Text.{numberLines}
+use Rattle.card_text.specs.Growing.{Grown}
 use Rattle.card_text.proofs.Texts.{lines-none, lines-more, lines-all}
 use Rattle.card_text.proofs.bytes.put_numbers.Statement.{statement}
 use Rattle.card_text.proofs.bytes.put_numbers.Tie as tie

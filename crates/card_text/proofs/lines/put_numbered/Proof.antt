@@ -1,8 +1,6 @@
 -- `card_text::lines::put_numbered` meets its contract.
 use borrow.Author.Needs.{needs}
 use native.Mathlib.Omega.{arith}
-use Prim.Native.Nat.{_-_}
-use lib.ListN.{length}
 use Rattle.card_text.proofs.Texts.{numbered-put}
 use Rattle.card_text.proofs.lines.put_numbered.Statement.{statement}
 use Rattle.card_text.proofs.lines.put_numbered.Tie as tie

@@ -1,4 +1,4 @@
--- A file that is longer than any card has the fault that its first 8862 bytes have.
+-- A file that is longer than any card has the fault that its first bytes have, of which there are enough.
 use Prim.Native.Nat.{ℕ, zero, suc, _+_, _*_, _≤_}
 use native.Mathlib.Nat.{mul-suc}
 use native.Mathlib.Omega.{arith}
@@ -9,7 +9,7 @@ use lib.Dec.{leb, eqb}
 use lib.ListN.{length, take, drop, length-drop, take-append-drop}
 use lib.Seq.{length-take-le, take-nil, take-append-le, take-append-add, drop-append-le}
 use borrow.Author.Tests.{leb-true, le-leb, eqb-true, eqb-false}
-use Rattle.card.specs.Card.{bitsOf, bitsOfBytes, Reading, fault, readCard, numberCount}
+use Rattle.card.specs.Card.{bitsOf, bitsOfBytes, Card, Reading, fault, read, readCard, numberCount, enough}
 use Rattle.card.specs.Fields.{fieldAt, bitCount, restAt}
 use Rattle.card.proofs.Bits.{bitsOf-length, bits-length}
 use Rattle.card.proofs.Binary.{Binary, bytes-binary, take-binary, field-below}
@@ -95,11 +95,35 @@ module _ (bits : List ℕ) (len : ℕ) (b : Binary bits) (whole : length bits �
       sizes-inside (take 70896 bits) (rw front-length (omega arith))
       ∙ rw (same-field 0 4 (omega arith), same-field 5 6 (omega arith), same-field 11 6 (omega arith), if-small n m (restAt n m (take 70896 bits)) (restAt n m bits) (same-rest n m)) (sym (sizes-inside bits (omega (arith, inside))))
 
-pub read-short-of : (bytes : List ℕ) → 8862 ≤ length bytes → readCard (take 8862 bytes) ≡ readCard bytes
+pub read-short-of : (bytes : List ℕ) → enough ≤ length bytes → readCard (take enough bytes) ≡ readCard bytes
 read-short-of bytes h =
-    let cut : bitsOfBytes (take 8862 bytes) ≡ take 70896 (bitsOfBytes bytes) = cut-bytes 8862 bytes in
+    let cut : bitsOfBytes (take enough bytes) ≡ take 70896 (bitsOfBytes bytes) = cut-bytes enough bytes in
     let binary : Binary (take 70896 (bitsOfBytes bytes)) = take-binary 70896 (bitsOfBytes bytes) (bytes-binary bytes) in
-    card-by-places (take 8862 bytes)
+    card-by-places (take enough bytes)
     ∙ ap (λ (l : List ℕ). byPlaces l) cut
     ∙ same-reading (bitsOfBytes bytes) (length bytes) (bytes-binary bytes) (bits-length bytes) h binary
     ∙ sym (card-by-places bytes)
+
+-- ---- such a file has a fault
+
+no-card : (f : ℕ) (k : Card) → fault f ≡ read k → {A : Type 0} → A
+no-card f k e = let z : _≡_ {A = ℕ} 0 1 = cc in absurd (omega arith)
+
+only-faults : (k : Card) (a b c d : Bool) → cond a (cond b (cond c (cond d (fault 5) (fault 4)) (fault 3)) (fault 3)) (fault 2) ≡ read k → {A : Type 0} → A
+only-faults k true true true true e = no-card 5 k e
+only-faults k true true true false e = no-card 4 k e
+only-faults k true true false d e = no-card 3 k e
+only-faults k true false c d e = no-card 3 k e
+only-faults k false b c d e = no-card 2 k e
+
+pub too-long : (bytes : List ℕ) (k : Card) → enough ≤ length bytes → readCard bytes ≡ read k → {A : Type 0} → A
+too-long bytes k h e =
+    let bits = bitsOfBytes bytes in
+    let n = fieldAt 5 6 bits in
+    let m = fieldAt 11 6 bits in
+    let total = bitCount n m bits in
+    let told = cond (eqb (fieldAt total (padding total) bits) 0) (fault 5) (fault 4) in
+    let long : 17 ≤ length bits = rw (bits-length bytes) (omega arith) in
+    let rest : cond (leb n 32) (cond (leb m 32) (restAt n m bits) (fault 3)) (fault 3) ≡ cond (leb n 32) (cond (leb m 32) told (fault 3)) (fault 3) =
+    if-small n m (restAt n m bits) told (rest-long n m bits (length bytes) (bytes-binary bytes) (bits-length bytes) h) in
+    only-faults k (eqb (fieldAt 0 4 bits) 1) (leb n 32) (leb m 32) (eqb (fieldAt total (padding total) bits) 0) (sym (card-by-places bytes ∙ sizes-inside bits long ∙ rw rest) ∙ e)

@@ -6,9 +6,9 @@ use mathlib.Core.Bool.{Bool, true, false, cond}
 use mathlib.Core.List.{List}
 use lib.Dec.{leb, eqb}
 use lib.ListN.{length, take}
-use lib.Seq.{length-take-le}
-use borrow.Author.Tests.{eqb-true, eqb-false, le-leb, lt-ltb, eq-eqb}
-use Rattle.card.specs.Card.{bitsOfBytes, Card, read, readCard, numberCount, bytesFor, cardBits, writtenCard}
+use lib.Seq.{length-take-le, take-length}
+use borrow.Author.Tests.{eqb-true, eqb-false, leb-true, leb-false, le-leb, lt-ltb, eq-eqb}
+use Rattle.card.specs.Card.{bitsOfBytes, Card, read, readCard, numberCount, bytesFor, cardBits, writtenCard, longestCard, enough, frontLength}
 use Rattle.card.specs.Fields.{fieldAt, fieldsAt, bitCount, cardAt}
 use Rattle.card.specs.Outcome.{answerOf, ReadOutcome, isWritten, WriteOutcome}
 use Rattle.card.specs.RoundTrip.{AreBytes, Fits}
@@ -19,7 +19,7 @@ use Rattle.card.proofs.Binary.{bytes-binary, field-below, fields-below}
 use Rattle.card.proofs.Found.{Found, found-at}
 use Rattle.card.proofs.Back.{Says, bits-said, same-bytes, bytes-back, cut-same, bytes-needed}
 use Rattle.card.proofs.Forth.{read-again}
-use Rattle.card.proofs.Longer.{read-short-of}
+use Rattle.card.proofs.Longer.{read-short-of, too-long}
 use Rattle.card.proofs.Writing.{written-is, written-length}
 
 -- ---- any two outcomes that a contract allows coincide
@@ -129,7 +129,31 @@ pub what-is-read-is-written : (bytes : List ℕ) (k : Card) (space : ℕ) → Ar
 what-is-read-is-written bytes k space below e =
     what-fits-is-written k space (what-is-read-fits bytes k e) ∙ ap (λ (l : List ℕ). leb (length l) space) (read-then-written-is-the-same bytes k below e)
 
--- ---- The largest card has 8861 bytes: of a longer file, one byte more is enough to judge it.
+-- ---- How much of a file tells its card.
 
-pub longer-than-any-card : (bytes : List ℕ) → 8862 ≤ length bytes → readCard (take 8862 bytes) ≡ readCard bytes
+pub no-card-is-longer : (bytes : List ℕ) (k : Card) → readCard bytes ≡ read k → length bytes ≤ longestCard
+no-card-is-longer bytes k e = go (leb enough (length bytes)) refl
+  where
+    go : (long : Bool) → leb enough (length bytes) ≡ long → length bytes ≤ longestCard
+    go true l = too-long bytes k (leb-true enough (length bytes) l) e
+    go false l =
+        let h : length bytes < enough = leb-false enough (length bytes) l in
+        omega arith
+
+-- A file that is longer than any card has the fault of its front, which is one byte longer than the longest.
+pub longer-than-any-card : (bytes : List ℕ) → enough ≤ length bytes → readCard (take enough bytes) ≡ readCard bytes
 longer-than-any-card bytes h = read-short-of bytes h
+
+-- What is read of a file of any length tells its card.
+pub the-front-tells-the-card : (bytes : List ℕ) → readCard (take (frontLength (length bytes)) bytes) ≡ readCard bytes
+the-front-tells-the-card bytes = go (leb enough (length bytes)) refl
+  where
+    go : (long : Bool) → leb enough (length bytes) ≡ long → readCard (take (frontLength (length bytes)) bytes) ≡ readCard bytes
+    go true e =
+        let h : enough ≤ length bytes = leb-true enough (length bytes) e in
+        let all : frontLength (length bytes) ≡ enough = omega arith in
+        rw all (longer-than-any-card bytes h)
+    go false e =
+        let h : length bytes < enough = leb-false enough (length bytes) e in
+        let all : frontLength (length bytes) ≡ length bytes = omega arith in
+        rw (all, take-length bytes)

@@ -1,5 +1,5 @@
 -- Document 02, (i), "A problem file for the bench": one card, and what it says.
-use Prim.Native.Nat.{ℕ, zero, suc, _+_, _*_, _/_, _%_, _^_}
+use Prim.Native.Nat.{ℕ, zero, suc, _+_, _*_, _/_, _%_, _^_, min}
 use mathlib.Core.Bool.{Bool, true, false, cond}
 use mathlib.Core.List.{List, [], _∷_, _++_}
 use lib.Dec.{leb, eqb}
@@ -128,3 +128,17 @@ bytesOf (suc k) bits = value (take 8 (bits ++ replicate 8 0)) ∷ bytesOf k (dro
 unfoldable pub writtenCard : Card → List ℕ
 unfolding cardBits bytesOf
 writtenCard k = bytesOf (bytesFor (length (cardBits k))) (cardBits k)
+
+-- ---- how much of a file tells its card
+
+-- the bytes of the longest card: 63 words, and n and m of 32, not packed
+abbrev pub longestCard : ℕ
+longestCard = bytesFor (4 + 1 + 6 + 6 + 6 + 16 * 63 + 20 + 7 + 64 * numberCount false 32 32)
+
+-- one byte more shows that a file is longer than any card
+abbrev pub enough : ℕ
+enough = longestCard + 1
+
+-- of a file of so many bytes: all, or enough
+abbrev pub frontLength : ℕ → ℕ
+frontLength bytes = min bytes enough

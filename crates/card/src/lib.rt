@@ -1,8 +1,11 @@
 // A problem as a card file: bits, the most significant first, read into words and numbers and written back.
 mod digits;
+mod enough;
 mod reader;
 mod writer;
 
+pub use enough::ENOUGH;
+pub use enough::front_length;
 pub use reader::read_card;
 pub use writer::write_card;
 

@@ -21,8 +21,7 @@ use Rattle.rules.proofs.Demands.{turned-away-exactly}
 use Rattle.card.specs.Card.{Card, read, readCard}
 use Rattle.card.specs.Outcome.{answerOf}
 use Rattle.card.proofs.Found.{n-most, m-most}
-use Rattle.card_answer.specs.Answer.{problemFrom, problemOfCard, leftOf}
-use Rattle.card_answer.specs.Text.{workPlaces}
+use Rattle.card_answer.specs.Answer.{workPlaces, problemFrom, problemOfCard, leftOf}
 
 -- ---- cone work
 

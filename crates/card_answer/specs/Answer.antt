@@ -55,6 +55,10 @@ problemOfCard k = problemFrom (k .packed) (k .n) (k .m) (k .words) (k .maxIter) 
 
 -- ---- what becomes of a card
 
+-- The places of work that are lent: enough for n and m of 32.
+abbrev pub workPlaces : ℕ
+workPlaces = 518
+
 -- The places of cone work that are lent: d + d * d for the largest order d of a block of at most 32 places, 7.
 abbrev pub conePlaces : ℕ
 conePlaces = 56

@@ -1,3 +1,1 @@
 pub mod Answer
-pub mod Text
-pub mod EmptyCard

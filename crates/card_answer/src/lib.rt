@@ -1,7 +1,4 @@
-// What becomes of a card: its problem is solved, and the answer is written as text.
-mod lines;
-mod text;
-
+// What becomes of a card: its problem is solved.
 use card::CardRead;
 use rules::Answer;
 use rules::Cols;
@@ -16,7 +13,6 @@ ghost use lib.ListN.{length, drop, take};
 ghost use Rattle.rules.specs.Refusals.{SolveOutcome};
 ghost use Rattle.card.specs.Card.{numbersOfA};
 ghost use Rattle.card_answer.specs.Answer.{numbersAt, parametersOf, storageOf, problemFrom, FieldsOutcome, CardOutcome};
-pub use lines::write_answer;
 
 // The card's fault; or n and m, how its problem ended or why it was turned away, k and q.
 pub enum Told {

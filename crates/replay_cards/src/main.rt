@@ -1,10 +1,8 @@
 // Answers many cards: standard input holds their number and then each card with its length before it, as
 // compare/README.md says. What is written must be the original's answers, one after another.
+use libc::STDIN_FILENO;
 use libc::STDOUT_FILENO;
 use replay::lines;
-
-// One byte more than the longest card has.
-const MOST: usize = 8862;
 
 // Reads a card and answers it: whether there was a whole one, and all of the answer was written.
 fn answer_one() -> bool {
@@ -17,15 +15,14 @@ fn answer_one() -> bool {
 
 // Goes on after the length.
 fn answer_rest(length: u64) -> bool {
-    if length > MOST as u64 {
+    let mut card = [0u8; card::ENOUGH];
+    let count = card_file::read_front(STDIN_FILENO, length as usize, &mut card);
+    if count as u64 != length {
         return false;
     }
-    let count = length as usize;
-    let mut card = [0u8; MOST];
-    if !lines::read(&mut card, count) {
-        return false;
-    }
-    card_answer::write_answer(&card[0..count])
+    let mut text = [0u8; card_text::TEXT_ROOM];
+    let end = card_text::answer_text(&card[..count], &mut text);
+    io::write_all(STDOUT_FILENO, &text[..end])
 }
 
 // Answers so many cards, or up to one that can't be read: whether all were, and nothing follows.

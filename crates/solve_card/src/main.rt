@@ -1,25 +1,35 @@
-// Solves a card: the file that the first argument names, else standard input. The answer is written to
-// standard output; why a file can't be read, to standard error.
+// Solves cards: the files that the arguments name, one after another, `-` being standard input, which is
+// also solved where there is no argument. The answers are written to standard output; why a file can't be
+// read, to standard error.
 use libc::STDIN_FILENO;
-
-// One byte more than the longest card has: a longer file has the same fault.
-const MOST: usize = 8862;
+use libc::STDOUT_FILENO;
 
 fn main() {
-    if os::arg_count() < 2 {
+    let count = os::arg_count();
+    if count < 2 {
         solve(STDIN_FILENO, b"standard input");
         return;
     }
+    for i in 1..count {
+        solve_argument(i);
+    }
+}
+
+fn solve_argument(i: usize) {
     let mut name = io::buffer();
-    let length = os::arg(1, &mut name);
+    let length = os::arg(i, &mut name);
     if os::errno() != 0 {
         os::fail(b"the file's name");
         return;
     }
-    solve_file(&name[..length]);
+    solve_named(&name[..length]);
 }
 
-fn solve_file(name: &[u8]) {
+fn solve_named(name: &[u8]) {
+    if is_dash(name) {
+        solve(STDIN_FILENO, b"standard input");
+        return;
+    }
     let fd = os::open_read(name);
     if fd < 0 {
         os::fail(name);
@@ -29,14 +39,24 @@ fn solve_file(name: &[u8]) {
     libc::close(fd);
 }
 
+fn is_dash(name: &[u8]) -> bool {
+    if name.len() != 1 {
+        return false;
+    }
+    name[0] == b'-'
+}
+
+// Reads a card and writes its answer.
 fn solve(fd: i32, name: &[u8]) {
-    let mut bytes = [0u8; MOST];
-    let length = io::read_full(fd, &mut bytes);
-    if length < MOST && !is_at_end(fd) {
+    let mut bytes = [0u8; card::ENOUGH];
+    let length = card_file::read_front(fd, card::ENOUGH, &mut bytes);
+    if length < card::ENOUGH && !is_at_end(fd) {
         os::fail(name);
         return;
     }
-    if !card_answer::write_answer(&bytes[..length]) {
+    let mut text = [0u8; card_text::TEXT_ROOM];
+    let end = card_text::answer_text(&bytes[..length], &mut text);
+    if !io::write_all(STDOUT_FILENO, &text[..end]) {
         os::fail(b"standard output");
     }
 }

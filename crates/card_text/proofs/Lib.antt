@@ -1,0 +1,5 @@
+pub mod Texts
+pub mod Whole
+pub mod Coincide
+pub mod EmptyCard
+pub mod AnyNan

@@ -1,0 +1,88 @@
+// The text of a card's answer, in a buffer.
+mod bytes;
+mod lines;
+
+use card_answer::Told;
+use lines::put_ended;
+use lines::put_numbered;
+use rules::Cols;
+use rules::Ending;
+use rules::Rows;
+ghost use Prim.Native.Nat.{_≤_};
+ghost use lib.ListN.{length};
+ghost use Rattle.io.specs.Counts.{Counts};
+ghost use Rattle.card_text.specs.Text.{Says, AnswerText, ToldText, TextOutcome};
+ghost use Rattle.card_text.specs.Growing.{columnsOf, rowsOf};
+
+// A buffer of so many bytes holds the text of any card, and a few more.
+pub const TEXT_ROOM: usize = 1200;
+
+// Puts the answer to a card without a fault.
+fn put_answer(
+    text: &mut [u8],
+    ending: Ending,
+    steps: u64,
+    rotations: u64,
+    x: &[f64],
+    y: &[f64],
+) -> usize
+    requires { ⌜ 1200 ≤ length (now text) ⌝ }
+    requires { ⌜ length (now x) ≤ 32 ⌝ }
+    requires { ⌜ length (now y) ≤ 32 ⌝ }
+    ensures { λ r. ⌜ r ≤ 1200 ⌝ }
+    ensures { λ r. ⌜ Says (AnswerText ending steps rotations (now (x .entry)) (now (y .entry))) (now (text .entry)) r (now (text .exit)) ⌝ }
+{
+    match ending {
+        Ending::BadParam => put_numbered(text, b"Refused ", 1),
+        Ending::TooLarge => put_numbered(text, b"Refused ", 2),
+        Ending::InvalidOp => put_numbered(text, b"Refused ", 3),
+        Ending::BadCone => put_numbered(text, b"Refused ", 4),
+        Ending::NotFinite => put_numbered(text, b"Refused ", 5),
+        Ending::WorkShortage => put_numbered(text, b"Refused ", 6),
+        Ending::Converged(_, _, _) => put_ended(text, b"Converged ", steps, rotations, x, y),
+        Ending::ExcessIter(_, _, _) => put_ended(text, b"ExcessIter ", steps, rotations, x, y),
+        Ending::ExcessIterUnscaled(_, _) => {
+            put_ended(text, b"ExcessIter ", steps, rotations, x, y)
+        }
+        Ending::Unbounded(_) => put_ended(text, b"Unbounded ", steps, rotations, x, y),
+        Ending::Infeasible(_) => put_ended(text, b"Infeasible ", steps, rotations, x, y),
+        Ending::ConeFailure(_) => put_ended(text, b"ConeFailure ", steps, rotations, x, y),
+    }
+}
+
+// Puts what was told of a card, of which the solution stands in work.
+fn put_told(text: &mut [u8], told: Told, work: &[f64]) -> usize
+    requires { ⌜ 1200 ≤ length (now text) ⌝ }
+    requires { ⌜ columnsOf told ≤ 32 ⌝ }
+    requires { ⌜ rowsOf told ≤ 32 ⌝ }
+    ensures { λ r. ⌜ r ≤ 1200 ⌝ }
+    ensures { λ r. ⌜ Says (ToldText told (now (work .entry))) (now (text .entry)) r (now (text .exit)) ⌝ }
+{
+    match told {
+        Told::Fault(number) => put_numbered(text, b"Card ", number as u64),
+        Told::Answered(n, m, ending, steps, rotations) => {
+            put_answer(
+                text,
+                ending,
+                steps,
+                rotations,
+                solution::solution_x(work, Cols(n)),
+                solution::solution_y(work, Rows(m), Cols(n)),
+            )
+        }
+    }
+}
+
+// Puts what the program writes for a card at the start of a buffer, and answers how many bytes that is.
+// Where the buffer may be too short, it answers 0 and changes nothing.
+pub fn answer_text(card: &[u8], text: &mut [u8]) -> usize
+    ensures { λ r. ⌜ Counts r (now (text .exit)) ⌝ }
+    ensures { λ r. ⌜ TextOutcome (now (card .entry)) (now (text .entry)) r (now (text .exit)) ⌝ }
+{
+    if text.len() < TEXT_ROOM {
+        return 0;
+    }
+    let mut work = [0.0; card_answer::WORK];
+    let told = card_answer::answer(card, &mut work);
+    put_told(text, told, &work)
+}

@@ -21,7 +21,7 @@ pub enum Told {
 }
 
 // How many words and how many numbers a card may have.
-const WORDS: usize = 63;
+const CARD_WORDS: usize = 63;
 
 const NUMBERS: usize = 1091;
 
@@ -180,7 +180,7 @@ fn answer_fields(
 pub fn answer(bytes: &[u8], work: &mut [f64]) -> Told
     ensures { λ r. ⌜ CardOutcome (now (bytes .entry)) (now (work .entry)) r (now (work .exit)) ⌝ }
 {
-    let mut words = [0u16; WORDS];
+    let mut words = [0u16; CARD_WORDS];
     let mut numbers = [0u64; NUMBERS];
     match card::read_card(bytes, &mut words, &mut numbers) {
         CardRead::No => Told::Fault(0),

@@ -2,10 +2,10 @@
 use rules::Ending;
 use rules::LIMIT;
 use rules::MOST_STEPS;
-use rules::SWEEPS;
+use rules::MOST_SWEEPS;
 use rules::SolverParam;
 use rules::Storage;
-use rules::WORDS;
+use rules::MOST_WORDS;
 ghost use Prim.Native.Nat.{_≤_};
 ghost use mathlib.Core.Path.{_≡_};
 ghost use Rattle.rules.specs.Limits.{limit};
@@ -86,7 +86,7 @@ fn bad_param(par: SolverParam) -> bool
     if par.sweep_limit < 1 {
         return true;
     }
-    par.sweep_limit > SWEEPS
+    par.sweep_limit > MOST_SWEEPS
 }
 
 fn too_large(m: usize, n: usize, words: &[u16]) -> bool
@@ -98,7 +98,7 @@ fn too_large(m: usize, n: usize, words: &[u16]) -> bool
     if m > LIMIT {
         return true;
     }
-    words.len() > WORDS
+    words.len() > MOST_WORDS
 }
 
 fn invalid_op(m: usize, n: usize, storage: Storage, c: &[f64], a: &[f64], b: &[f64]) -> bool

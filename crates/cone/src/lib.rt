@@ -2,7 +2,7 @@
 use rules::Cone;
 use rules::LIMIT;
 use rules::Projection;
-use rules::SWEEPS;
+use rules::MOST_SWEEPS;
 use rules::SolverParam;
 use words::block_work;
 use words::places_of;
@@ -99,7 +99,7 @@ pub fn sweeps_fit(par: SolverParam) -> bool
     if par.sweep_limit < 1 {
         return false;
     }
-    par.sweep_limit <= SWEEPS
+    par.sweep_limit <= MOST_SWEEPS
 }
 
 // Whether a block has that many places and finds enough cone work, and the sweep limit fits.

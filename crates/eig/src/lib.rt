@@ -1,7 +1,7 @@
 // Jacobi's method and map_eig of floatgeneric.rs: the semidefinite projection.
 use rules::LIMIT;
 use rules::Projection;
-use rules::SWEEPS;
+use rules::MOST_SWEEPS;
 use rules::SolverParam;
 ghost use Prim.Native.Nat.{_+_, _-_, _*_, _≤_, _<_};
 ghost use mathlib.Core.Path.{_≡_};
@@ -336,7 +336,7 @@ fn fits(par: SolverParam, order: usize, mat: &[f64], work: &[f64]) -> bool
     if par.sweep_limit < 1 {
         return false;
     }
-    par.sweep_limit <= SWEEPS
+    par.sweep_limit <= MOST_SWEEPS
 }
 
 // The projection of a semidefinite block.

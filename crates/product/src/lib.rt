@@ -3,7 +3,7 @@ use cone::is_within;
 use cone::proj;
 use cone::sweeps_fit;
 use rules::Cone;
-use rules::PLACES;
+use rules::MOST_PLACES;
 use rules::Product;
 use rules::Projection;
 use rules::SolverParam;
@@ -52,7 +52,7 @@ fn product_fits(par: SolverParam, words: &[u16], len: usize, work: usize) -> boo
     if work < cone_work_len(words) {
         return false;
     }
-    if PLACES < len {
+    if MOST_PLACES < len {
         return false;
     }
     sweeps_fit(par)

@@ -7,7 +7,7 @@ use replay::record;
 use rules::Cone;
 use rules::Product;
 use rules::SolverParam;
-use rules::WORDS;
+use rules::MOST_WORDS;
 ghost use Prim.Native.Nat.{_≤_};
 
 pub enum Found {
@@ -90,7 +90,7 @@ fn product(record: &[u8]) -> bool {
         return false;
     }
     let blocks = record::size(record, 4);
-    if blocks > WORDS {
+    if blocks > MOST_WORDS {
         return false;
     }
     let places = record::size(record, 5);
@@ -104,7 +104,7 @@ fn product(record: &[u8]) -> bool {
 fn projects_list(dual: bool, list: &[u16], record: &[u8], places: usize) -> bool
     requires { ⌜ places ≤ 639 ⌝ }
 {
-    if list.len() > WORDS {
+    if list.len() > MOST_WORDS {
         return false;
     }
     let x_at = list.len() + 6;
@@ -217,7 +217,7 @@ fn is_no(answer: Product) -> bool {
 // A list of blocks, grouped.
 fn grouping(record: &[u8]) -> bool {
     let blocks = record::size(record, 0);
-    if blocks > WORDS {
+    if blocks > MOST_WORDS {
         return false;
     }
     let places = record::size(record, 1);

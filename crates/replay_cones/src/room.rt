@@ -1,6 +1,6 @@
 // Arrays of what a record holds.
 use replay::record;
-use rules::WORDS;
+use rules::MOST_WORDS;
 
 // How many numbers a vector may have; the list's longest cone work has 506.
 pub const ROOM: usize = 640;
@@ -15,9 +15,9 @@ pub fn numbers(record: &[u8], at: usize, n: usize) -> [f64; ROOM] {
 }
 
 // The n cone words from a place on, and 0 after them.
-pub fn cone_words(record: &[u8], at: usize, n: usize) -> [u16; WORDS] {
-    let mut words = [0u16; WORDS];
-    if n <= WORDS {
+pub fn cone_words(record: &[u8], at: usize, n: usize) -> [u16; MOST_WORDS] {
+    let mut words = [0u16; MOST_WORDS];
+    if n <= MOST_WORDS {
         record::fill_words(record, at, &mut words[0..n]);
     }
     words

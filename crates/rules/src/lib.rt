@@ -34,7 +34,7 @@ pub enum Word {
 }
 
 // The most sweeps that Jacobi's method may be allowed.
-pub const SWEEPS: u64 = 64;
+pub const MOST_SWEEPS: u64 = 64;
 
 // How a matrix is stored: all of it by columns, or the upper triangle of a symmetric one.
 pub enum Storage {
@@ -45,10 +45,10 @@ pub enum Storage {
 // The largest max_iter, and the most cone words.
 pub const MOST_STEPS: u64 = 1000000;
 
-pub const WORDS: usize = 32;
+pub const MOST_WORDS: usize = 32;
 
-// The most places of a list of blocks: their rotations, at most SWEEPS a place, then fit 64 bits.
-pub const PLACES: usize = 288230376151711743;
+// The most places of a list of blocks: their rotations, at most MOST_SWEEPS a place, then fit 64 bits.
+pub const MOST_PLACES: usize = 288230376151711743;
 
 // The parameters of a run.
 pub struct SolverParam {

@@ -12,7 +12,8 @@ use Rattle.rules.specs.declared.SolverParam.{SolverParam}
 use Rattle.rules.specs.declared.Storage.{Storage}
 use Rattle.rules.specs.Limits.{limit, mostWords}
 use Rattle.rules.specs.Blocks.{isBadCone}
-use Rattle.rules.specs.Refusals.{accepted, refused, badParam, refusal}
+use Rattle.rules.specs.declared.Refusal.the-variants.{Accepted, Refused}
+use Rattle.rules.specs.Refusals.{badParam, refusal}
 use Rattle.rules.specs.Problem.{problemOf}
 use Rattle.checks.specs.Check.{largeSizes, wrongLengths, someInfinite, shortBuffers}
 
@@ -28,33 +29,33 @@ sizes-within m n words e =
 
 module _ (m n : ℕ) (storage : Storage) (c a b : List Float) (words : List ℕ) (par : SolverParam) (work cone : ℕ) where
   by-parts : refusal (problemOf m n storage c a b words par) work cone ≡
-      cond (badParam par) (refused BadParam)
-      (cond (largeSizes m n words) (refused TooLarge)
-      (cond (wrongLengths m n storage c a b) (refused InvalidOp)
-      (cond (isBadCone words m) (refused BadCone)
-      (cond (someInfinite c a b) (refused NotFinite)
-      (cond (shortBuffers m n words work cone) (refused WorkShortage)
-      accepted)))))
+      cond (badParam par) (Refused BadParam)
+      (cond (largeSizes m n words) (Refused TooLarge)
+      (cond (wrongLengths m n storage c a b) (Refused InvalidOp)
+      (cond (isBadCone words m) (Refused BadCone)
+      (cond (someInfinite c a b) (Refused NotFinite)
+      (cond (shortBuffers m n words work cone) (Refused WorkShortage)
+      Accepted)))))
   unfolding refusal
   by-parts = refl
 
-  pub bad-param : badParam par ≡ true → refused BadParam ≡ refusal (problemOf m n storage c a b words par) work cone
+  pub bad-param : badParam par ≡ true → Refused BadParam ≡ refusal (problemOf m n storage c a b words par) work cone
   bad-param e1 = rw (by-parts, e1)
 
-  pub too-large : badParam par ≡ false → largeSizes m n words ≡ true → refused TooLarge ≡ refusal (problemOf m n storage c a b words par) work cone
+  pub too-large : badParam par ≡ false → largeSizes m n words ≡ true → Refused TooLarge ≡ refusal (problemOf m n storage c a b words par) work cone
   too-large e1 e2 = rw (by-parts, e1, e2)
 
-  pub invalid-op : badParam par ≡ false → largeSizes m n words ≡ false → wrongLengths m n storage c a b ≡ true → refused InvalidOp ≡ refusal (problemOf m n storage c a b words par) work cone
+  pub invalid-op : badParam par ≡ false → largeSizes m n words ≡ false → wrongLengths m n storage c a b ≡ true → Refused InvalidOp ≡ refusal (problemOf m n storage c a b words par) work cone
   invalid-op e1 e2 e3 = rw (by-parts, e1, e2, e3)
 
-  pub bad-cone : badParam par ≡ false → largeSizes m n words ≡ false → wrongLengths m n storage c a b ≡ false → isBadCone words m ≡ true → refused BadCone ≡ refusal (problemOf m n storage c a b words par) work cone
+  pub bad-cone : badParam par ≡ false → largeSizes m n words ≡ false → wrongLengths m n storage c a b ≡ false → isBadCone words m ≡ true → Refused BadCone ≡ refusal (problemOf m n storage c a b words par) work cone
   bad-cone e1 e2 e3 e4 = rw (by-parts, e1, e2, e3, e4)
 
-  pub not-finite : badParam par ≡ false → largeSizes m n words ≡ false → wrongLengths m n storage c a b ≡ false → isBadCone words m ≡ false → someInfinite c a b ≡ true → refused NotFinite ≡ refusal (problemOf m n storage c a b words par) work cone
+  pub not-finite : badParam par ≡ false → largeSizes m n words ≡ false → wrongLengths m n storage c a b ≡ false → isBadCone words m ≡ false → someInfinite c a b ≡ true → Refused NotFinite ≡ refusal (problemOf m n storage c a b words par) work cone
   not-finite e1 e2 e3 e4 e5 = rw (by-parts, e1, e2, e3, e4, e5)
 
-  pub work-shortage : badParam par ≡ false → largeSizes m n words ≡ false → wrongLengths m n storage c a b ≡ false → isBadCone words m ≡ false → someInfinite c a b ≡ false → shortBuffers m n words work cone ≡ true → refused WorkShortage ≡ refusal (problemOf m n storage c a b words par) work cone
+  pub work-shortage : badParam par ≡ false → largeSizes m n words ≡ false → wrongLengths m n storage c a b ≡ false → isBadCone words m ≡ false → someInfinite c a b ≡ false → shortBuffers m n words work cone ≡ true → Refused WorkShortage ≡ refusal (problemOf m n storage c a b words par) work cone
   work-shortage e1 e2 e3 e4 e5 e6 = rw (by-parts, e1, e2, e3, e4, e5, e6)
 
-  pub is-accepted : badParam par ≡ false → largeSizes m n words ≡ false → wrongLengths m n storage c a b ≡ false → isBadCone words m ≡ false → someInfinite c a b ≡ false → shortBuffers m n words work cone ≡ false → accepted ≡ refusal (problemOf m n storage c a b words par) work cone
+  pub is-accepted : badParam par ≡ false → largeSizes m n words ≡ false → wrongLengths m n storage c a b ≡ false → isBadCone words m ≡ false → someInfinite c a b ≡ false → shortBuffers m n words work cone ≡ false → Accepted ≡ refusal (problemOf m n storage c a b words par) work cone
   is-accepted e1 e2 e3 e4 e5 e6 = rw (by-parts, e1, e2, e3, e4, e5, e6)

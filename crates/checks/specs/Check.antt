@@ -1,4 +1,4 @@
--- What a check answers, and the facts that it asks by their parts.
+-- The facts that a check asks, by their parts.
 use Prim.Native.Nat.{ℕ}
 use mathlib.Core.Bool.{Bool, not, _&&_, _||_}
 use mathlib.Core.List.{List}
@@ -11,13 +11,7 @@ use Rattle.rules.specs.Matrices.{storedLength}
 use Rattle.rules.specs.Blocks.{blocksOf}
 use Rattle.rules.specs.Product.{coneWork}
 use Rattle.rules.specs.Problem.{matrixOf, workLength}
-use Rattle.rules.specs.Refusals.{Refusal, accepted, refused, isPacked, allFinite}
-use Rattle.checks.specs.declared.Checked.{Checked}
-use Rattle.checks.specs.declared.Checked.the-variants.{Accepted, Refused}
-
-abbrev pub asRefusal : Checked → Refusal
-asRefusal Accepted = accepted
-asRefusal (Refused e) = refused e
+use Rattle.rules.specs.Refusals.{isPacked, allFinite}
 
 -- tooLarge, invalidOp, notFinite and workShortage of a problem with these parts
 abbrev pub largeSizes : ℕ → ℕ → List ℕ → Bool

@@ -3,20 +3,16 @@ use rules::Ending;
 use rules::LIMIT;
 use rules::MOST_STEPS;
 use rules::MOST_SWEEPS;
+use rules::MOST_WORDS;
+use rules::Refusal;
 use rules::SolverParam;
 use rules::Storage;
-use rules::MOST_WORDS;
 ghost use Prim.Native.Nat.{_≤_};
 ghost use mathlib.Core.Path.{_≡_};
 ghost use Rattle.rules.specs.Limits.{limit};
 ghost use Rattle.rules.specs.Refusals.{isFinite, allFinite, badParam, refusal};
 ghost use Rattle.rules.specs.Problem.{problemOf, asRead};
-ghost use Rattle.checks.specs.Check.{asRefusal, largeSizes, wrongLengths, someInfinite, shortBuffers};
-
-pub enum Checked {
-    Accepted,
-    Refused(Ending),
-}
+ghost use Rattle.checks.specs.Check.{largeSizes, wrongLengths, someInfinite, shortBuffers};
 
 // The first test that applies.
 pub fn check(
@@ -30,32 +26,32 @@ pub fn check(
     words: &[u16],
     work: usize,
     cone_work: usize,
-) -> Checked
-    ensures { λ r. ⌜ asRefusal r ≡ refusal (problemOf m n storage (now (c .entry)) (now (a .entry)) (now (b .entry)) (now (words .entry)) par) work «cone_work» ⌝ }
+) -> Refusal
+    ensures { λ r. ⌜ r ≡ refusal (problemOf m n storage (now (c .entry)) (now (a .entry)) (now (b .entry)) (now (words .entry)) par) work «cone_work» ⌝ }
 {
     let param_is_bad = bad_param(par);
     let size_is_too_large = too_large(m, n, words);
     if param_is_bad {
-        return Checked::Refused(Ending::BadParam);
+        return Refusal::Refused(Ending::BadParam);
     }
     if size_is_too_large {
-        return Checked::Refused(Ending::TooLarge);
+        return Refusal::Refused(Ending::TooLarge);
     }
     if invalid_op(m, n, storage, c, a, b) {
-        return Checked::Refused(Ending::InvalidOp);
+        return Refusal::Refused(Ending::InvalidOp);
     }
     let cone_is_bad = words::is_bad_cone(words, m);
     let number_is_not_finite = not_finite(c, a, b);
     if cone_is_bad {
-        return Checked::Refused(Ending::BadCone);
+        return Refusal::Refused(Ending::BadCone);
     }
     if number_is_not_finite {
-        return Checked::Refused(Ending::NotFinite);
+        return Refusal::Refused(Ending::NotFinite);
     }
     if work_shortage(m, n, words, work, cone_work) {
-        return Checked::Refused(Ending::WorkShortage);
+        return Refusal::Refused(Ending::WorkShortage);
     }
-    Checked::Accepted
+    Refusal::Accepted
 }
 
 fn is_finite(x: f64) -> bool

@@ -1,8 +1,8 @@
 // The projection of one block, onto the cone of its kind.
 use rules::Cone;
 use rules::LIMIT;
-use rules::Projection;
 use rules::MOST_SWEEPS;
+use rules::Projection;
 use rules::SolverParam;
 use words::block_work;
 use words::places_of;

@@ -1,7 +1,7 @@
 // Jacobi's method and map_eig of floatgeneric.rs: the semidefinite projection.
 use rules::LIMIT;
-use rules::Projection;
 use rules::MOST_SWEEPS;
+use rules::Projection;
 use rules::SolverParam;
 ghost use Prim.Native.Nat.{_+_, _-_, _*_, _≤_, _<_};
 ghost use mathlib.Core.Path.{_≡_};

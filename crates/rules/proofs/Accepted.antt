@@ -14,7 +14,8 @@ use Rattle.rules.specs.Blocks.{hasBadWord, totalPlaces, isBadCone}
 use Rattle.rules.specs.Projections.{sweepsFit}
 use Rattle.rules.specs.Product.{coneWork}
 use Rattle.rules.specs.Problem.{Problem, matrix, blocks, workLength}
-use Rattle.rules.specs.Refusals.{isFinite, isPacked, badParam, tooLarge, invalidOp, badCone, workShortage, accepted, refusal, readProblem}
+use Rattle.rules.specs.declared.Refusal.the-variants.{Accepted}
+use Rattle.rules.specs.Refusals.{isFinite, isPacked, badParam, tooLarge, invalidOp, badCone, workShortage, refusal, readProblem}
 use Rattle.rules.proofs.Refusals.{none-holds}
 use Rattle.rules.proofs.Lengths.{Fitting}
 
@@ -106,7 +107,7 @@ buffers-fit p work cone e =
 
 -- ---- all of them
 
-pub record Accepted (p : Problem) (work cone : ℕ) : Type 0 where
+pub record AllFits (p : Problem) (work cone : ℕ) : Type 0 where
   pub fitting : Fitting p
   pub square : isPacked (p .storage) ≡ true → p .m ≡ p .n
   pub no-bad-word : hasBadWord (p .words) ≡ false
@@ -119,7 +120,7 @@ pub record Accepted (p : Problem) (work cone : ℕ) : Type 0 where
   pub long-work : workLength (p .m) (p .n) ≤ work
   pub long-cone : coneWork (blocks p) ≤ cone
 
-pub accepted-fits : (p : Problem) (work cone : ℕ) → refusal p work cone ≡ accepted → Accepted p work cone
+pub accepted-fits : (p : Problem) (work cone : ℕ) → refusal p work cone ≡ Accepted → AllFits p work cone
 accepted-fits p work cone e =
     let none = none-holds p work cone e in
     let par = param-fits (p .par) (none 1) in

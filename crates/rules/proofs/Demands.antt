@@ -7,9 +7,10 @@ use lib.ListN.{length}
 use Rattle.rules.specs.declared.Answer.{Answer}
 use Rattle.rules.specs.Product.{Failure}
 use Rattle.rules.specs.Problem.{Problem}
-use Rattle.rules.specs.Criteria.{Criteria}
+use Rattle.rules.specs.declared.Criteria.{Criteria}
 use Rattle.rules.specs.Run.{Ended, run, leftBy}
-use Rattle.rules.specs.Refusals.{accepted, refusal, readProblem, solved, SolveOutcome}
+use Rattle.rules.specs.declared.Refusal.the-variants.{Accepted}
+use Rattle.rules.specs.Refusals.{refusal, readProblem, solved, SolveOutcome}
 use Rattle.rules.specs.Demands.{TurnedAwayExactly, EndsFirst, GoesOnExactly, ConvergedExactly, RotationsBounded, OldContentsChangeNothing, PlacesBeyondKept}
 use Rattle.rules.proofs.Refusals as Refusals
 use Rattle.rules.proofs.Run as Run
@@ -24,7 +25,7 @@ pub turned-away-exactly : (p : Problem) (work cone : List Float) → TurnedAwayE
 turned-away-exactly = Refusals.turned-away-exactly
 
 -- Where none holds, the run of the problem as read is what the solver leaves: the theorems below are about that run.
-pub accepted-runs : (p : Problem) (work cone : List Float) → refusal p (length work) (length cone) ≡ accepted → solved p work cone ≡ leftBy (readProblem p) work cone (run (readProblem p))
+pub accepted-runs : (p : Problem) (work cone : List Float) → refusal p (length work) (length cone) ≡ Accepted → solved p work cone ≡ leftBy (readProblem p) work cone (run (readProblem p))
 accepted-runs = OldContents.solved-accepted
 
 -- ---- the solver's outcome
@@ -60,5 +61,5 @@ pub rotations-bounded : (p : Problem) → RotationsBounded p (run p)
 rotations-bounded = Rotations.run-bounded
 
 -- "What the buffers held before changes none of it"
-pub old-contents-change-nothing : (p : Problem) (work cone work' cone' : List Float) → refusal p (length work) (length cone) ≡ accepted → refusal p (length work') (length cone') ≡ accepted → OldContentsChangeNothing p work cone work' cone'
+pub old-contents-change-nothing : (p : Problem) (work cone work' cone' : List Float) → refusal p (length work) (length cone) ≡ Accepted → refusal p (length work') (length cone') ≡ Accepted → OldContentsChangeNothing p work cone work' cone'
 old-contents-change-nothing = OldContents.old-contents-change-nothing

@@ -16,7 +16,8 @@ use Rattle.rules.specs.Product.{Passed, isNone, projAll, groupAll, coneW
 use Rattle.rules.specs.Problem.{Problem, Embed, embed, matrix, column, blocks, lengthX, lengthY}
 use Rattle.rules.specs.Step.{State, part, aOp, aTrans, bOp, cOp, cTrans, xX, xY, xS, xTau, yN, yM, y1, opN, opM, op1, opK, transX, transY, transS, transTau, transOpK, movedX, projected, tauTaken, movedY, updated}
 use Rattle.rules.specs.Criteria.{tauOf, withResiduals, primalResidual, dualResidual, ray, dualRay, judged}
-use Rattle.rules.specs.Prepare.{Norms, zeros, diagonal, columnIn, withB, withC, startX, sumsX, sumsY, sumsS, sumsTau, groupedX, dpTauOf, dpSigmaOf, prepared, preparedNorms}
+use Rattle.rules.specs.declared.Norms.{Norms}
+use Rattle.rules.specs.Prepare.{zeros, diagonal, columnIn, withB, withC, startX, sumsX, sumsY, sumsS, sumsTau, groupedX, dpTauOf, dpSigmaOf, prepared, preparedNorms}
 use Rattle.rules.specs.Run.{turn, run}
 use Rattle.rules.specs.Demands.{stateAfter}
 use Rattle.rules.proofs.KernelLengths.{scaled-length, added-length, shifted-length, transformedDi-length, diagonal-length, opped-length, transOpped-length, absaddedCols-length, absaddedRows-length, groupAll-length, PassKeeps, pass-keeps}

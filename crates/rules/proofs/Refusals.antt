@@ -14,9 +14,13 @@ use Rattle.rules.specs.declared.Ending.the-variants.{BadParam, TooLarge,
 use Rattle.rules.specs.declared.SolverParam.{SolverParam}
 use Rattle.rules.specs.Product.{Failure, none, block}
 use Rattle.rules.specs.Problem.{Problem}
-use Rattle.rules.specs.Criteria.{Criteria, conv, inf?}
-use Rattle.rules.specs.Run.{goesOn, ends, verdict, allowance, run, Left, leftBy}
-use Rattle.rules.specs.Refusals.{Refusal, accepted, refused, refusal, badParam, tooLarge, invalidOp, badCone, notFinite, workShortage, numberOf, readProblem, turnedAway, leftAfter, solved, SolveOutcome}
+use Rattle.rules.specs.declared.Criteria.{Criteria}
+use Rattle.rules.specs.declared.Criteria.the-variants.{Conv, Inf}
+use Rattle.rules.specs.declared.Verdict.the-variants.{Ends, GoesOn}
+use Rattle.rules.specs.Run.{verdict, allowance, run, Left, leftBy}
+use Rattle.rules.specs.declared.Refusal.{Refusal}
+use Rattle.rules.specs.declared.Refusal.the-variants.{Accepted, Refused}
+use Rattle.rules.specs.Refusals.{refusal, badParam, tooLarge, invalidOp, badCone, notFinite, workShortage, numberOf, readProblem, turnedAway, leftAfter, solved, SolveOutcome}
 use Rattle.rules.specs.Demands.{fact, FirstToHold, TurnedAwayExactly, step}
 use Rattle.rules.proofs.Columns.{by-less}
 use Rattle.rules.proofs.Run.{ends-first}
@@ -51,49 +55,49 @@ module _ (p : Problem) (work cone : ℕ) where
 
   -- what the refusal says of the facts
   abbrev Says : Refusal → Type 0
-  Says accepted = (j : ℕ) → fact p work cone j ≡ false
-  Says (refused e) = FirstToHold p work cone (numberOf e)
+  Says Accepted = (j : ℕ) → fact p work cone j ≡ false
+  Says (Refused e) = FirstToHold p work cone (numberOf e)
 
   first : (i : ℕ) → NoneBefore i → fact p work cone i ≡ true → FirstToHold p work cone i
   first i before e = record { holds = e; none-before = before }
 
   -- the tests from the kth on
   abbrev from-6 : Refusal
-  from-6 = cond (workShortage p work cone) (refused WorkShortage) accepted
+  from-6 = cond (workShortage p work cone) (Refused WorkShortage) Accepted
 
   abbrev from-5 : Refusal
-  from-5 = cond (notFinite p) (refused NotFinite) from-6
+  from-5 = cond (notFinite p) (Refused NotFinite) from-6
 
   abbrev from-4 : Refusal
-  from-4 = cond (badCone p) (refused BadCone) from-5
+  from-4 = cond (badCone p) (Refused BadCone) from-5
 
   abbrev from-3 : Refusal
-  from-3 = cond (invalidOp p) (refused InvalidOp) from-4
+  from-3 = cond (invalidOp p) (Refused InvalidOp) from-4
 
   abbrev from-2 : Refusal
-  from-2 = cond (tooLarge p) (refused TooLarge) from-3
+  from-2 = cond (tooLarge p) (Refused TooLarge) from-3
 
-  says-6 : (t : Bool) → workShortage p work cone ≡ t → NoneBefore 6 → Says (cond t (refused WorkShortage) accepted)
+  says-6 : (t : Bool) → workShortage p work cone ≡ t → NoneBefore 6 → Says (cond t (Refused WorkShortage) Accepted)
   says-6 true e b = first 6 b e
   says-6 false e b = λ j. by-less j 7 (none-more 6 b e j) (none-above j)
 
-  says-5 : (t : Bool) → notFinite p ≡ t → NoneBefore 5 → Says (cond t (refused NotFinite) from-6)
+  says-5 : (t : Bool) → notFinite p ≡ t → NoneBefore 5 → Says (cond t (Refused NotFinite) from-6)
   says-5 true e b = first 5 b e
   says-5 false e b = says-6 (workShortage p work cone) refl (none-more 5 b e)
 
-  says-4 : (t : Bool) → badCone p ≡ t → NoneBefore 4 → Says (cond t (refused BadCone) from-5)
+  says-4 : (t : Bool) → badCone p ≡ t → NoneBefore 4 → Says (cond t (Refused BadCone) from-5)
   says-4 true e b = first 4 b e
   says-4 false e b = says-5 (notFinite p) refl (none-more 4 b e)
 
-  says-3 : (t : Bool) → invalidOp p ≡ t → NoneBefore 3 → Says (cond t (refused InvalidOp) from-4)
+  says-3 : (t : Bool) → invalidOp p ≡ t → NoneBefore 3 → Says (cond t (Refused InvalidOp) from-4)
   says-3 true e b = first 3 b e
   says-3 false e b = says-4 (badCone p) refl (none-more 3 b e)
 
-  says-2 : (t : Bool) → tooLarge p ≡ t → NoneBefore 2 → Says (cond t (refused TooLarge) from-3)
+  says-2 : (t : Bool) → tooLarge p ≡ t → NoneBefore 2 → Says (cond t (Refused TooLarge) from-3)
   says-2 true e b = first 2 b e
   says-2 false e b = says-3 (invalidOp p) refl (none-more 2 b e)
 
-  says-1 : (t : Bool) → badParam (p .par) ≡ t → Says (cond t (refused BadParam) from-2)
+  says-1 : (t : Bool) → badParam (p .par) ≡ t → Says (cond t (Refused BadParam) from-2)
   says-1 true e = first 1 none-before-one e
   says-1 false e = says-2 (tooLarge p) refl (none-more 1 none-before-one e)
 
@@ -108,12 +112,12 @@ module _ (p : Problem) (work cone : ℕ) where
       (λ l. by-less j i (λ k. absurd (true≢false (sym (g .holds) ∙ f .none-before j k))) (λ k. omega arith))
 
 -- where a problem is accepted no fact holds
-pub none-holds : (p : Problem) (work cone : ℕ) → refusal p work cone ≡ accepted → (j : ℕ) → fact p work cone j ≡ false
+pub none-holds : (p : Problem) (work cone : ℕ) → refusal p work cone ≡ Accepted → (j : ℕ) → fact p work cone j ≡ false
 none-holds p work cone e = rw e at (says p work cone)
 
 -- ---- an accepted run is no refusal
 
-two-unnumbered : (t l : Bool) (e e' x : Ending) → numberOf e ≡ 0 → numberOf e' ≡ 0 → cond t (ends e) (cond l (ends e') goesOn) ≡ ends x → numberOf x ≡ 0
+two-unnumbered : (t l : Bool) (e e' x : Ending) → numberOf e ≡ 0 → numberOf e' ≡ 0 → cond t (Ends e) (cond l (Ends e') GoesOn) ≡ Ends x → numberOf x ≡ 0
 two-unnumbered true l e e' x h h' is =
     let same : e ≡ x = cc in
     rw (← same) h
@@ -124,20 +128,20 @@ two-unnumbered false false e e' x h h' is =
     let z : _≡_ {A = ℕ} 0 1 = cc in
     absurd (omega arith)
 
-three-unnumbered : (t u l : Bool) (e e' e'' x : Ending) → numberOf e ≡ 0 → numberOf e' ≡ 0 → numberOf e'' ≡ 0 → cond t (ends e) (cond u (ends e') (cond l (ends e'') goesOn)) ≡ ends x → numberOf x ≡ 0
+three-unnumbered : (t u l : Bool) (e e' e'' x : Ending) → numberOf e ≡ 0 → numberOf e' ≡ 0 → numberOf e'' ≡ 0 → cond t (Ends e) (cond u (Ends e') (cond l (Ends e'') GoesOn)) ≡ Ends x → numberOf x ≡ 0
 three-unnumbered true u l e e' e'' x h h' h'' is =
     let same : e ≡ x = cc in
     rw (← same) h
 three-unnumbered false u l e e' e'' x h h' h'' is = two-unnumbered u l e' e'' x h' h'' is
 
-verdict-unnumbered : (par : SolverParam) (k : ℕ) (failure : Failure) (criteria : Criteria) (x : Ending) → verdict par k failure criteria ≡ ends x → numberOf x ≡ 0
+verdict-unnumbered : (par : SolverParam) (k : ℕ) (failure : Failure) (criteria : Criteria) (x : Ending) → verdict par k failure criteria ≡ Ends x → numberOf x ≡ 0
 unfolding verdict
 verdict-unnumbered par k (block b) criteria x h =
     let same : ConeFailure b ≡ x = cc in
     rw (← same)
-verdict-unnumbered par k none (conv pri dual gap) x h =
+verdict-unnumbered par k none (Conv pri dual gap) x h =
     two-unnumbered (le pri (par .«eps_acc») && le dual (par .«eps_acc») && le gap (par .«eps_acc»)) (leb (allowance par) k) (Converged pri dual gap) (ExcessIter pri dual gap) x refl refl h
-verdict-unnumbered par k none (inf? unbdd infeas) x h =
+verdict-unnumbered par k none (Inf unbdd infeas) x h =
     three-unnumbered (le unbdd (par .«eps_inf»)) (le infeas (par .«eps_inf»)) (leb (allowance par) k) (Unbounded unbdd) (Infeasible infeas) (ExcessIterUnscaled unbdd infeas) x refl refl refl h
 
 pub run-unnumbered : (p : Problem) → numberOf (run p .ending) ≡ 0
@@ -151,12 +155,12 @@ unfolding leftBy
 ran-unnumbered p work cone = run-unnumbered (readProblem p)
 
 exactly-by : (p : Problem) (work cone : List Float) (ran : Left) → numberOf (ran .answer .ending) ≡ 0 → (r : Refusal) → Says p (length work) (length cone) r → (i : ℕ) → 1 ≤ i → (numberOf (leftAfter r ran work cone .answer .ending) ≡ i) ↔ FirstToHold p (length work) (length cone) i
-exactly-by p work cone ran n accepted s i h = (λ e. absurd (omega arith), λ f. absurd (true≢false (sym (f .holds) ∙ s i)))
-exactly-by p work cone ran n (refused x) s i h = (λ e. rw (← e) s, λ f. only-first p (length work) (length cone) (numberOf x) i s f)
+exactly-by p work cone ran n Accepted s i h = (λ e. absurd (omega arith), λ f. absurd (true≢false (sym (f .holds) ∙ s i)))
+exactly-by p work cone ran n (Refused x) s i h = (λ e. rw (← e) s, λ f. only-first p (length work) (length cone) (numberOf x) i s f)
 
 unchanged-by : (p : Problem) (work cone : List Float) (ran : Left) (r : Refusal) → Says p (length work) (length cone) r → (i : ℕ) → FirstToHold p (length work) (length cone) i → leftAfter r ran work cone ≡ turnedAway (leftAfter r ran work cone .answer .ending) work cone
-unchanged-by p work cone ran accepted s i f = absurd (true≢false (sym (f .holds) ∙ s i))
-unchanged-by p work cone ran (refused x) s i f = refl
+unchanged-by p work cone ran Accepted s i f = absurd (true≢false (sym (f .holds) ∙ s i))
+unchanged-by p work cone ran (Refused x) s i f = refl
 
 pub turned-away-exactly : (p : Problem) (work cone : List Float) → TurnedAwayExactly p work cone
 unfolding solved

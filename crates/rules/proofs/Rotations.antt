@@ -16,7 +16,8 @@ use Rattle.rules.specs.Projections.{√2, diagonalTimes, unit, projPSD, 
 use Rattle.rules.specs.Product.{Passed, projAll, isNone}
 use Rattle.rules.specs.Problem.{Problem, embed, blocks}
 use Rattle.rules.specs.Step.{State, movedX, projected, updated, xX, xY, xS}
-use Rattle.rules.specs.Prepare.{Norms, preparedNorms}
+use Rattle.rules.specs.declared.Norms.{Norms}
+use Rattle.rules.specs.Prepare.{preparedNorms}
 use Rattle.rules.specs.Run.{turn, run}
 use Rattle.rules.specs.Demands.{stateAfter, step, rotationsUpTo, pairsTwice, allPairsTwice, RotationsBounded}
 use Rattle.rules.proofs.Jacobi.{rotations-bounded}

@@ -14,15 +14,19 @@ use Rattle.rules.specs.declared.SolverParam.{SolverParam}
 use Rattle.rules.specs.Product.{Failure, none, block}
 use Rattle.rules.specs.Problem.{Problem}
 use Rattle.rules.specs.Step.{State}
-use Rattle.rules.specs.Criteria.{Criteria, conv, inf?}
-use Rattle.rules.specs.Prepare.{Norms, preparedNorms}
-use Rattle.rules.specs.Run.{Turn, turn, Verdict, goesOn, ends, verdict, allowance, Ended, finished, runFrom, run}
+use Rattle.rules.specs.declared.Criteria.{Criteria}
+use Rattle.rules.specs.declared.Criteria.the-variants.{Conv, Inf}
+use Rattle.rules.specs.declared.Norms.{Norms}
+use Rattle.rules.specs.Prepare.{preparedNorms}
+use Rattle.rules.specs.declared.Verdict.{Verdict}
+use Rattle.rules.specs.declared.Verdict.the-variants.{Ends, GoesOn}
+use Rattle.rules.specs.Run.{Turn, turn, verdict, allowance, Ended, finished, runFrom, run}
 use Rattle.rules.specs.Demands.{stateAfter, step, verdictAt, rotationsUpTo, EndsFirst, endingTest, GoesOnExactly}
 use Rattle.rules.proofs.Columns.{by-less}
 
 -- ---- one step
 
-ends-not-on : {e : Ending} → ends e ≡ goesOn → ⊥
+ends-not-on : {e : Ending} → Ends e ≡ GoesOn → ⊥
 ends-not-on h =
     let z : _≡_ {A = ℕ} 0 1 = cc in
     omega arith
@@ -33,13 +37,13 @@ block-not-none h =
     omega arith
 
 -- a test, then the allowance
-two-tests : (t l : Bool) (e e' : Ending) → (cond t (ends e) (cond l (ends e') goesOn) ≡ goesOn) ↔ ((t ≡ false) × (l ≡ false))
+two-tests : (t l : Bool) (e e' : Ending) → (cond t (Ends e) (cond l (Ends e') GoesOn) ≡ GoesOn) ↔ ((t ≡ false) × (l ≡ false))
 two-tests true l e e' = (λ h. absurd (ends-not-on h), λ h. absurd (true≢false (h .0)))
 two-tests false true e e' = (λ h. absurd (ends-not-on h), λ h. absurd (true≢false (h .1)))
 two-tests false false e e' = (λ h. (refl, refl), λ h. refl)
 
 -- two tests, then the allowance
-three-tests : (t u l : Bool) (e e' e'' : Ending) → (cond t (ends e) (cond u (ends e') (cond l (ends e'') goesOn)) ≡ goesOn) ↔ ((t || u ≡ false) × (l ≡ false))
+three-tests : (t u l : Bool) (e e' e'' : Ending) → (cond t (Ends e) (cond u (Ends e') (cond l (Ends e'') GoesOn)) ≡ GoesOn) ↔ ((t || u ≡ false) × (l ≡ false))
 three-tests true u l e e' e'' = (λ h. absurd (ends-not-on h), λ h. absurd (true≢false (h .0)))
 three-tests false u l e e' e'' = two-tests u l e' e''
 
@@ -50,10 +54,10 @@ left-over par k t h =
 pub goes-on-exactly : (p : Problem) (k : ℕ) (failure : Failure) (criteria : Criteria) → GoesOnExactly p k failure criteria
 unfolding verdict
 goes-on-exactly p k (block b) criteria = record { exactly = (λ h. absurd (ends-not-on h), λ h. absurd (block-not-none (h .0))) }
-goes-on-exactly p k none (conv pri dual gap) =
-    record { exactly = left-over (p .par) k (endingTest p (conv pri dual gap)) (two-tests (endingTest p (conv pri dual gap)) (leb (allowance (p .par)) k) (Converged pri dual gap) (ExcessIter pri dual gap)) }
-goes-on-exactly p k none (inf? unbdd infeas) =
-    record { exactly = left-over (p .par) k (endingTest p (inf? unbdd infeas)) (three-tests (le unbdd (p .par .«eps_inf»)) (le infeas (p .par .«eps_inf»)) (leb (allowance (p .par)) k) (Unbounded unbdd) (Infeasible infeas) (ExcessIterUnscaled unbdd infeas)) }
+goes-on-exactly p k none (Conv pri dual gap) =
+    record { exactly = left-over (p .par) k (endingTest p (Conv pri dual gap)) (two-tests (endingTest p (Conv pri dual gap)) (leb (allowance (p .par)) k) (Converged pri dual gap) (ExcessIter pri dual gap)) }
+goes-on-exactly p k none (Inf unbdd infeas) =
+    record { exactly = left-over (p .par) k (endingTest p (Inf unbdd infeas)) (three-tests (le unbdd (p .par .«eps_inf»)) (le infeas (p .par .«eps_inf»)) (leb (allowance (p .par)) k) (Unbounded unbdd) (Infeasible infeas) (ExcessIterUnscaled unbdd infeas)) }
 
 -- ---- the run
 
@@ -78,9 +82,9 @@ run-more p ns left k q s t e = rw e
 -- j steps have gone on, with q rotations
 record GoneOn (p : Problem) (j q : ℕ) : Type 0 where
   counts : q ≡ rotationsUpTo p j
-  on : (k : ℕ) → 1 ≤ k → k ≤ j → verdictAt p k ≡ goesOn
+  on : (k : ℕ) → 1 ≤ k → k ≤ j → verdictAt p k ≡ GoesOn
 
-gone-on-more : {p : Problem} {j q : ℕ} → GoneOn p j q → verdictAt p (suc j) ≡ goesOn → GoneOn p (suc j) (q + step p (suc j) .rotations)
+gone-on-more : {p : Problem} {j q : ℕ} → GoneOn p j q → verdictAt p (suc j) ≡ GoesOn → GoneOn p (suc j) (q + step p (suc j) .rotations)
 gone-on-more {p} {j} {q} g e =
     record {
       counts = rw (rotations-more p j, g .counts);
@@ -92,9 +96,9 @@ gone-on-more {p} {j} {q} g e =
     }
 
 -- the step that j steps have led to ends the run or goes on
-ends-or-on : (p : Problem) (left j q : ℕ) → GoneOn p j q → j < allowance (p .par) → (verdictAt p (suc j) ≡ goesOn → EndsFirst p (runFrom left p (preparedNorms p) (suc j + 1) (q + step p (suc j) .rotations) (step p (suc j) .state))) → (v : Verdict) → verdictAt p (suc j) ≡ v → EndsFirst p (finished v (runFrom left p (preparedNorms p) (suc j + 1) (q + step p (suc j) .rotations) (step p (suc j) .state)) (suc j) (q + step p (suc j) .rotations) (step p (suc j) .state))
-ends-or-on p left j q g before rest goesOn e = rest e
-ends-or-on p left j q g before rest (ends ending) e =
+ends-or-on : (p : Problem) (left j q : ℕ) → GoneOn p j q → j < allowance (p .par) → (verdictAt p (suc j) ≡ GoesOn → EndsFirst p (runFrom left p (preparedNorms p) (suc j + 1) (q + step p (suc j) .rotations) (step p (suc j) .state))) → (v : Verdict) → verdictAt p (suc j) ≡ v → EndsFirst p (finished v (runFrom left p (preparedNorms p) (suc j + 1) (q + step p (suc j) .rotations) (step p (suc j) .state)) (suc j) (q + step p (suc j) .rotations) (step p (suc j) .state))
+ends-or-on p left j q g before rest GoesOn e = rest e
+ends-or-on p left j q g before rest (Ends ending) e =
     record {
       at-least-one = omega arith;
       at-most = before;
@@ -133,6 +137,6 @@ pub ends-first-once : {p : Problem} {d e : Ended} → EndsFirst p d → EndsFirs
 ends-first-once {p} {d} {e} f g =
     let k : d .steps ≡ e .steps = by-less (d .steps) (e .steps) (λ l. absurd (not-earlier f g l)) (λ l. by-less (e .steps) (d .steps) (λ r. absurd (not-earlier g f r)) (λ r. omega arith)) in
     let a = f .ends-there in
-    let b : verdictAt p (d .steps) ≡ ends (e .ending) = rw k (g .ends-there) in
+    let b : verdictAt p (d .steps) ≡ Ends (e .ending) = rw k (g .ends-there) in
     let c : d .ending ≡ e .ending = cc in
     same-ended d e c k (f .counts ∙ ap (rotationsUpTo p) k ∙ sym (g .counts)) (f .state-there ∙ ap (stateAfter p) k ∙ sym (g .state-there))

@@ -12,9 +12,13 @@ use Rattle.rules.specs.declared.Ending.the-variants.{Converged}
 use Rattle.rules.specs.Product.{Failure, none, coneWork}
 use Rattle.rules.specs.Problem.{Problem, embed, blocks, workLength}
 use Rattle.rules.specs.Step.{State}
-use Rattle.rules.specs.Criteria.{Criteria, conv, inf?, tauOf}
+use Rattle.rules.specs.declared.Criteria.{Criteria}
+use Rattle.rules.specs.declared.Criteria.the-variants.{Conv, Inf}
+use Rattle.rules.specs.Criteria.{tauOf}
 use Rattle.rules.specs.Prepare.{prepared, preparedNorms}
-use Rattle.rules.specs.Run.{Turn, turn, Verdict, goesOn, ends, verdict, allowance, Ended, run}
+use Rattle.rules.specs.declared.Verdict.{Verdict}
+use Rattle.rules.specs.declared.Verdict.the-variants.{Ends, GoesOn}
+use Rattle.rules.specs.Run.{Turn, turn, verdict, allowance, Ended, run}
 use Rattle.rules.specs.Refusals.{badParam, tooLarge, invalidOp, badCone, notFinite, workShortage, numberOf, solved, turnedAway}
 
 -- ---- demand 1
@@ -61,25 +65,25 @@ rotationsUpTo p (suc k) = rotationsUpTo p k + step p (suc k) .rotations
 pub record EndsFirst (p : Problem) (e : Ended) : Type 0 where
   pub at-least-one : 1 ≤ e .steps
   pub at-most : e .steps ≤ allowance (p .par)
-  pub ends-there : verdictAt p (e .steps) ≡ ends (e .ending)
-  pub not-before : (k : ℕ) → 1 ≤ k → k < e .steps → verdictAt p k ≡ goesOn
+  pub ends-there : verdictAt p (e .steps) ≡ Ends (e .ending)
+  pub not-before : (k : ℕ) → 1 ≤ k → k < e .steps → verdictAt p k ≡ GoesOn
   pub state-there : e .state ≡ stateAfter p (e .steps)
   -- "q counts the rotations of those k steps"
   pub counts : e .rotations ≡ rotationsUpTo p (e .steps)
 
 -- a cone fails, an ending test holds, or the allowance is met
 abbrev pub endingTest : Problem → Criteria → Bool
-endingTest p (conv pri dual gap) = le pri (p .par .«eps_acc») && le dual (p .par .«eps_acc») && le gap (p .par .«eps_acc»)
-endingTest p (inf? unbdd infeas) = le unbdd (p .par .«eps_inf») || le infeas (p .par .«eps_inf»)
+endingTest p (Conv pri dual gap) = le pri (p .par .«eps_acc») && le dual (p .par .«eps_acc») && le gap (p .par .«eps_acc»)
+endingTest p (Inf unbdd infeas) = le unbdd (p .par .«eps_inf») || le infeas (p .par .«eps_inf»)
 
 pub record GoesOnExactly (p : Problem) (k : ℕ) (failure : Failure) (criteria : Criteria) : Type 0 where
-  pub exactly : (verdict (p .par) k failure criteria ≡ goesOn) ↔ ((failure ≡ none) × (endingTest p criteria ≡ false) × (k < allowance (p .par)))
+  pub exactly : (verdict (p .par) k failure criteria ≡ GoesOn) ↔ ((failure ≡ none) × (endingTest p criteria ≡ false) × (k < allowance (p .par)))
 
 -- "Converged is answered exactly when at step k no cone failed, tau > eps_zero and all three criteria are at most eps_acc."
 pub record ConvergedTest (p : Problem) (t : Turn) (pri dual gap : Float) : Type 0 where
   pub no-cone-failed : t .failure ≡ none
   pub tau-above : lt (p .par .«eps_zero») (tauOf (embed p) (t .state .x)) ≡ true
-  pub criteria-are : t .criteria ≡ conv pri dual gap
+  pub criteria-are : t .criteria ≡ Conv pri dual gap
   pub primal-small : le pri (p .par .«eps_acc») ≡ true
   pub dual-small : le dual (p .par .«eps_acc») ≡ true
   pub gap-small : le gap (p .par .«eps_acc») ≡ true

@@ -8,6 +8,7 @@ use Rattle.rules.specs.declared.MatType.the-variants.{General, SymPack}
 use Rattle.rules.specs.declared.Storage.{Storage}
 use Rattle.rules.specs.declared.Storage.the-variants.{Dense, Packed}
 use Rattle.rules.specs.declared.Cone.{Cone}
+use Rattle.rules.specs.declared.Shape.{Shape}
 use Rattle.rules.specs.declared.SolverParam.{SolverParam}
 use Rattle.rules.specs.Arithmetic.{+0}
 use Rattle.rules.specs.Blocks.{blocksOf}
@@ -27,6 +28,10 @@ pub record Problem : Type 0 where
 abbrev pub problemOf : ℕ → ℕ → Storage → List Float → List Float → List Float → List ℕ → SolverParam → Problem
 problemOf m n storage c a b words par =
     record { m = m; n = n; storage = storage; c = c; a = a; b = b; words = words; par = par }
+
+-- the same, its sizes and storage in one
+abbrev pub problemIn : Shape → List Float → List Float → List Float → List ℕ → SolverParam → Problem
+problemIn shape c a b words par = problemOf (shape .rows .0) (shape .cols .0) (shape .storage) c a b words par
 
 abbrev pub matrixOf : Storage → ℕ → ℕ → MatType
 matrixOf Dense m n = General (record { 0 = m }) (record { 0 = n })
@@ -50,6 +55,17 @@ pub record Embed : Type 0 where
 
 abbrev pub embed : Problem → Embed
 embed p = record { m = p .m; n = p .n; t = matrix p; c = p .c; a = p .a; b = p .b }
+
+abbrev pub embedIn : Shape → List Float → List Float → List Float → Embed
+embedIn shape c a b =
+    record {
+      m = shape .rows .0;
+      n = shape .cols .0;
+      t = matrixOf (shape .storage) (shape .rows .0) (shape .cols .0);
+      c = c;
+      a = a;
+      b = b;
+    }
 
 abbrev pub blocks : Problem → List Cone
 blocks p = blocksOf (p .words)

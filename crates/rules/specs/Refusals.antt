@@ -13,6 +13,8 @@ use Rattle.rules.specs.declared.Ending.the-variants.{BadParam, TooLarge,
 use Rattle.rules.specs.declared.SolverParam.{SolverParam}
 use Rattle.rules.specs.declared.Storage.{Storage}
 use Rattle.rules.specs.declared.Storage.the-variants.{Dense, Packed}
+use Rattle.rules.specs.declared.Refusal.{Refusal}
+use Rattle.rules.specs.declared.Refusal.the-variants.{Accepted, Refused}
 use Rattle.rules.specs.Limits.{limit, mostWords, mostSteps}
 use Rattle.rules.specs.Arithmetic.{+0}
 use Rattle.rules.specs.Matrices.{storedLength}
@@ -69,20 +71,16 @@ workShortage p work cone = ltb work (workLength (p .m) (p .n)) || ltb cone (cone
 
 -- ---- the first that applies
 
-pub data Refusal : Type 0 where
-  accepted : Refusal
-  refused : Ending → Refusal
-
 unfoldable pub refusal : Problem → ℕ → ℕ → Refusal
 unfolding badParam tooLarge invalidOp badCone notFinite workShortage
 refusal p work cone =
-    cond (badParam (p .par)) (refused BadParam)
-    (cond (tooLarge p) (refused TooLarge)
-    (cond (invalidOp p) (refused InvalidOp)
-    (cond (badCone p) (refused BadCone)
-    (cond (notFinite p) (refused NotFinite)
-    (cond (workShortage p work cone) (refused WorkShortage)
-    accepted)))))
+    cond (badParam (p .par)) (Refused BadParam)
+    (cond (tooLarge p) (Refused TooLarge)
+    (cond (invalidOp p) (Refused InvalidOp)
+    (cond (badCone p) (Refused BadCone)
+    (cond (notFinite p) (Refused NotFinite)
+    (cond (workShortage p work cone) (Refused WorkShortage)
+    Accepted)))))
 
 -- this paper's number of each refusal; an ending of an accepted run has none
 abbrev pub numberOf : Ending → ℕ
@@ -111,8 +109,8 @@ abbrev pub turnedAway : Ending → List Float → List Float → Left
 turnedAway e work cone = record { answer = record { ending = e; steps = 0; rotations = 0 }; work = work; cone = cone }
 
 abbrev pub leftAfter : Refusal → Left → List Float → List Float → Left
-leftAfter accepted ran work cone = ran
-leftAfter (refused e) ran work cone = turnedAway e work cone
+leftAfter Accepted ran work cone = ran
+leftAfter (Refused e) ran work cone = turnedAway e work cone
 
 unfoldable pub solved : Problem → List Float → List Float → Left
 unfolding refusal readProblem run leftBy

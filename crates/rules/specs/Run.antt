@@ -9,13 +9,18 @@ use Rattle.rules.specs.declared.Answer.{Answer}
 use Rattle.rules.specs.declared.Ending.{Ending}
 use Rattle.rules.specs.declared.Ending.the-variants.{BadParam, TooLarge, InvalidOp, BadCone, NotFinite, WorkShortage, Converged, ExcessIter, ExcessIterUnscaled, Unbounded, Infeasible, ConeFailure}
 use Rattle.rules.specs.declared.SolverParam.{SolverParam}
+use Rattle.rules.specs.declared.Verdict.{Verdict}
+use Rattle.rules.specs.declared.Verdict.the-variants.{GoesOn, Ends}
 use Rattle.rules.specs.Helpers.{reciprocal}
 use Rattle.rules.specs.Vectors.{scaled}
 use Rattle.rules.specs.Product.{Failure, none, block, coneWork}
 use Rattle.rules.specs.Problem.{Problem, embed, blocks, workLength}
 use Rattle.rules.specs.Step.{State, updated, xX, xY}
-use Rattle.rules.specs.Criteria.{Criteria, conv, inf?, judged, tauOf}
-use Rattle.rules.specs.Prepare.{Norms, norms, prepared, preparedNorms, zeros}
+use Rattle.rules.specs.declared.Criteria.{Criteria}
+use Rattle.rules.specs.declared.Criteria.the-variants.{Conv, Inf}
+use Rattle.rules.specs.Criteria.{judged, tauOf}
+use Rattle.rules.specs.declared.Norms.{Norms}
+use Rattle.rules.specs.Prepare.{norms, prepared, preparedNorms, zeros}
 
 -- ---- one whole step, without stopping
 
@@ -41,21 +46,17 @@ turn p ns s =
 abbrev pub allowance : SolverParam → ℕ
 allowance par = max (par .«max_iter») 1
 
-pub data Verdict : Type 0 where
-  goesOn : Verdict
-  ends : Ending → Verdict
-
 -- "At one step: ConeFailure first, then Converged or ExcessIter if tau > eps_zero; otherwise Unbounded, Infeasible, ExcessIter."
 unfoldable pub verdict : SolverParam → ℕ → Failure → Criteria → Verdict
 unfolding le
-verdict par k (block b) criteria = ends (ConeFailure b)
-verdict par k none (conv pri dual gap) =
-    cond (le pri (par .«eps_acc») && le dual (par .«eps_acc») && le gap (par .«eps_acc»)) (ends (Converged pri dual gap))
-    (cond (leb (allowance par) k) (ends (ExcessIter pri dual gap)) goesOn)
-verdict par k none (inf? unbdd infeas) =
-    cond (le unbdd (par .«eps_inf»)) (ends (Unbounded unbdd))
-    (cond (le infeas (par .«eps_inf»)) (ends (Infeasible infeas))
-    (cond (leb (allowance par) k) (ends (ExcessIterUnscaled unbdd infeas)) goesOn))
+verdict par k (block b) criteria = Ends (ConeFailure b)
+verdict par k none (Conv pri dual gap) =
+    cond (le pri (par .«eps_acc») && le dual (par .«eps_acc») && le gap (par .«eps_acc»)) (Ends (Converged pri dual gap))
+    (cond (leb (allowance par) k) (Ends (ExcessIter pri dual gap)) GoesOn)
+verdict par k none (Inf unbdd infeas) =
+    cond (le unbdd (par .«eps_inf»)) (Ends (Unbounded unbdd))
+    (cond (le infeas (par .«eps_inf»)) (Ends (Infeasible infeas))
+    (cond (leb (allowance par) k) (Ends (ExcessIterUnscaled unbdd infeas)) GoesOn))
 
 -- ---- the run
 
@@ -66,8 +67,8 @@ pub record Ended : Type 0 where
   pub state : State
 
 abbrev pub finished : Verdict → Ended → ℕ → ℕ → State → Ended
-finished goesOn rest k q s = rest
-finished (ends e) rest k q s = record { ending = e; steps = k; rotations = q; state = s }
+finished GoesOn rest k q s = rest
+finished (Ends e) rest k q s = record { ending = e; steps = k; rotations = q; state = s }
 
 -- Steps from the k-th on, with that many of the allowance left; q rotations were made before. The allowance is met before it runs out.
 unfoldable pub runFrom : ℕ → Problem → Norms → ℕ → ℕ → State → Ended

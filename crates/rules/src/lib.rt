@@ -42,6 +42,13 @@ pub enum Storage {
     Packed,
 }
 
+// The sizes of a problem, and how its matrix is stored.
+pub struct Shape {
+    pub rows: Rows,
+    pub cols: Cols,
+    pub storage: Storage,
+}
+
 // The largest max_iter, and the most cone words.
 pub const MOST_STEPS: u64 = 1000000;
 
@@ -114,6 +121,32 @@ pub enum Ending {
     Infeasible(f64),
     // the block's number from 0
     ConeFailure(usize),
+}
+
+// What the six tests say of a problem.
+pub enum Refusal {
+    Accepted,
+    Refused(Ending),
+}
+
+// The Frobenius norms of b and c.
+pub struct Norms {
+    pub b: f64,
+    pub c: f64,
+}
+
+// The criteria of a step.
+pub enum Criteria {
+    // tau above eps_zero: primal, dual, gap
+    Conv(f64, f64, f64),
+    // tau not above it: unbounded, infeasible
+    Inf(f64, f64),
+}
+
+// Whether a run goes on after a step.
+pub enum Verdict {
+    GoesOn,
+    Ends(Ending),
 }
 
 // What a run answers: the ending, the steps k and the Jacobi rotations q.

@@ -37,6 +37,9 @@ abbrev pub matrixOf : Storage → ℕ → ℕ → MatType
 matrixOf Dense m n = General (record { 0 = m }) (record { 0 = n })
 matrixOf Packed m n = SymPack (record { 0 = m })
 
+abbrev pub matrixIn : Shape → MatType
+matrixIn shape = matrixOf (shape .storage) (shape .rows .0) (shape .cols .0)
+
 -- "c and b act as dense matrices of one column"
 abbrev pub column : ℕ → MatType
 column rows = General (record { 0 = rows }) (record { 0 = 1 })
@@ -61,7 +64,7 @@ embedIn shape c a b =
     record {
       m = shape .rows .0;
       n = shape .cols .0;
-      t = matrixOf (shape .storage) (shape .rows .0) (shape .cols .0);
+      t = matrixIn shape;
       c = c;
       a = a;
       b = b;

@@ -1,16 +1,21 @@
 -- What fits by test fits part by part, and the other way.
-use Prim.Native.Nat.{ℕ, _≤_}
-use mathlib.Core.Path.{_≡_, refl, subst}
+use Prim.Native.Nat.{ℕ, _+_, _≤_}
+use native.Mathlib.Nat.{mul-one}
+use mathlib.Core.Path.{_≡_, refl, sym, _∙_, subst}
 use mathlib.Core.Bool.{true}
 use mathlib.Core.List.{List}
 use borrow.Author.Tests.{leb-true, eqb-true, le-leb, eq-eqb}
+use native.Mathlib.Omega.{arith}
 use lib.Ieee.{Float}
+use lib.ListN.{length}
 use Rattle.rules.specs.declared.Shape.{Shape}
 use Rattle.rules.specs.declared.Storage.{Storage}
 use Rattle.rules.specs.declared.Storage.the-variants.{Dense, Packed}
 use Rattle.rules.specs.Limits.{limit}
-use Rattle.rules.specs.Matrices.{nRow}
-use Rattle.rules.specs.Problem.{matrixOf}
+use Rattle.rules.specs.Matrices.{nRow, Stored}
+use Rattle.rules.specs.Problem.{matrixOf, column}
+use Rattle.rules.specs.Step.{part}
+use Rattle.rules.proofs.Parts.{part-length}
 use Rattle.rules.proofs.Matrices.{both-true, stored-if-fits, fits-if-stored}
 use Rattle.shape.specs.Fitting.{isWithin, fitsX, fitsY, operatorsFit, Fits, LikeX, LikeY}
 
@@ -65,3 +70,34 @@ fits-of shape c a b h =
       c-length = eqb-true _ _ (r .1);
       b-length = eqb-true _ _ (q .1);
     }
+
+-- c and b as matrices of one column
+pub c-stored : {shape : Shape} {c a b : List Float} → Fits shape c a b → Stored (column (shape .cols .0)) c
+c-stored {shape} {c} f = record { rows = f .n-within; cols = omega arith; all = f .c-length ∙ sym (mul-one (shape .cols .0)) }
+
+pub b-stored : {shape : Shape} {c a b : List Float} → Fits shape c a b → Stored (column (shape .rows .0)) b
+b-stored {shape} f = record { rows = f .m-within; cols = omega arith; all = f .b-length ∙ sym (mul-one (shape .rows .0)) }
+
+-- the lengths of the parts of a vector like x, and of one like y
+module _ {shape : Shape} {x : List Float} (like : LikeX shape x) where
+  pub long-x : length (part 0 (shape .cols .0) x) ≡ shape .cols .0
+  long-x = part-length 0 (shape .cols .0) x (omega (arith, like .is))
+
+  pub long-y : length (part (shape .cols .0) (shape .rows .0) x) ≡ shape .rows .0
+  long-y = part-length (shape .cols .0) (shape .rows .0) x (omega (arith, like .is))
+
+  pub long-s : length (part (shape .cols .0 + shape .rows .0) (shape .rows .0) x) ≡ shape .rows .0
+  long-s = part-length (shape .cols .0 + shape .rows .0) (shape .rows .0) x (omega (arith, like .is))
+
+  pub long-tau : length (part (shape .cols .0 + shape .rows .0 + shape .rows .0) 1 x) ≡ 1
+  long-tau = part-length (shape .cols .0 + shape .rows .0 + shape .rows .0) 1 x (omega (arith, like .is))
+
+module _ {shape : Shape} {y : List Float} (like : LikeY shape y) where
+  pub long-n : length (part 0 (shape .cols .0) y) ≡ shape .cols .0
+  long-n = part-length 0 (shape .cols .0) y (omega (arith, like .is))
+
+  pub long-m : length (part (shape .cols .0) (shape .rows .0) y) ≡ shape .rows .0
+  long-m = part-length (shape .cols .0) (shape .rows .0) y (omega (arith, like .is))
+
+  pub long-1 : length (part (shape .cols .0 + shape .rows .0) 1 y) ≡ 1
+  long-1 = part-length (shape .cols .0 + shape .rows .0) 1 y (omega (arith, like .is))

@@ -82,21 +82,27 @@ pub record Judged : Type 0 where
   pub criteria : Criteria
   pub rx : List Float
 
-unfoldable pub judged : Embed → Float → Norms → List Float → List Float → Judged
-unfolding primalResidual dualResidual gap ray dualRay minusCX minusBY ratio norm lt add div one
-judged k eps ns x rx =
+-- where tau is above eps_zero, and where it is not
+unfoldable pub converging : Embed → Norms → List Float → List Float → Judged
+unfolding primalResidual dualResidual gap norm add div one
+converging k ns x rx =
     let pri = primalResidual k x in
     let dual = dualResidual k x (part (k .m) (k .n) rx) in
-    let r = ray k x in
-    let e = dualRay k x (part (k .m) (k .n) rx) in
-    let converging : Judged =
     record {
       criteria = Conv (norm pri /ᶠ (one +ᶠ ns .b)) (norm dual /ᶠ (one +ᶠ ns .c)) (gap k x);
       rx = withResiduals pri dual k rx;
-    } in
-    let diverging : Judged =
+    }
+
+unfoldable pub diverging : Embed → Float → Norms → List Float → List Float → Judged
+unfolding ray dualRay minusCX minusBY ratio norm
+diverging k eps ns x rx =
+    let pri = ray k x in
+    let dual = dualRay k x (part (k .m) (k .n) rx) in
     record {
-      criteria = Inf (ratio eps (norm r) (ns .c) (at (minusCX k x) 0)) (ratio eps (norm e) (ns .b) (at (minusBY k x) 0));
-      rx = withResiduals r e k rx;
-    } in
-    cond (lt eps (tauOf k x)) converging diverging
+      criteria = Inf (ratio eps (norm pri) (ns .c) (at (minusCX k x) 0)) (ratio eps (norm dual) (ns .b) (at (minusBY k x) 0));
+      rx = withResiduals pri dual k rx;
+    }
+
+unfoldable pub judged : Embed → Float → Norms → List Float → List Float → Judged
+unfolding converging diverging lt
+judged k eps ns x rx = cond (lt eps (tauOf k x)) (converging k ns x rx) (diverging k eps ns x rx)

@@ -43,7 +43,7 @@ fn list_fits(words: &[u16], len: usize) -> bool
 }
 
 // Whether the list, its places, cone work and the sweep limit fit.
-fn product_fits(par: SolverParam, words: &[u16], len: usize, work: usize) -> bool
+pub fn product_fits(par: SolverParam, words: &[u16], len: usize, work: usize) -> bool
     ensures { λ r. ⌜ r ≡ lengthsFit par (now (words .entry)) len work ⌝ }
 {
     if !list_fits(words, len) {

@@ -1,0 +1,4 @@
+pub mod Ready
+pub mod Moves
+pub mod Cones
+pub mod Updated

@@ -13,9 +13,8 @@ use Rattle.rules.specs.declared.Storage.{Storage}
 use Rattle.rules.specs.Limits.{limit, mostWords}
 use Rattle.rules.specs.Blocks.{isBadCone}
 use Rattle.rules.specs.declared.Refusal.the-variants.{Accepted, Refused}
-use Rattle.rules.specs.Refusals.{badParam, refusal}
+use Rattle.rules.specs.Refusals.{badParam, largeSizes, wrongLengths, someInfinite, shortBuffers, refusal}
 use Rattle.rules.specs.Problem.{problemOf}
-use Rattle.checks.specs.Check.{largeSizes, wrongLengths, someInfinite, shortBuffers}
 
 neither : (a b : Bool) → a || b ≡ false → (a ≡ false) × (b ≡ false)
 neither true b e = absurd (true≢false e)

@@ -19,30 +19,47 @@ use Rattle.rules.specs.Prepare.{prepared, preparedNorms}
 use Rattle.rules.specs.declared.Verdict.{Verdict}
 use Rattle.rules.specs.declared.Verdict.the-variants.{Ends, GoesOn}
 use Rattle.rules.specs.Run.{Turn, turn, verdict, allowance, Ended, run}
-use Rattle.rules.specs.Refusals.{badParam, tooLarge, invalidOp, badCone, notFinite, workShortage, numberOf, solved, turnedAway}
+use Rattle.rules.specs.declared.Refusal.{Refusal}
+use Rattle.rules.specs.declared.Refusal.the-variants.{Accepted, Refused}
+use Rattle.rules.specs.Outcome.{onPaper, turned-away, numberOf}
+use Rattle.rules.specs.Refusals.{Fact, _when_, facts, firstOf, readProblem, solved, turnedAway}
 
 -- ---- demand 1
 
--- the facts of the table, by number
-abbrev pub fact : Problem → ℕ → ℕ → ℕ → Bool
-fact p work cone zero = false
-fact p work cone (suc zero) = badParam (p .par)
-fact p work cone (suc (suc zero)) = tooLarge p
-fact p work cone (suc (suc (suc zero))) = invalidOp p
-fact p work cone (suc (suc (suc (suc zero)))) = badCone p
-fact p work cone (suc (suc (suc (suc (suc zero))))) = notFinite p
-fact p work cone (suc (suc (suc (suc (suc (suc zero)))))) = workShortage p work cone
-fact p work cone (suc (suc (suc (suc (suc (suc (suc i))))))) = false
+-- whether row i of a list of facts holds, counted from 1
+abbrev pub holdsAt : List Fact → ℕ → Bool
+holdsAt rows zero = false
+holdsAt [] (suc i) = false
+holdsAt ((e when holds) ∷ rows) (suc zero) = holds
+holdsAt (row ∷ rows) (suc (suc i)) = holdsAt rows (suc i)
+
+abbrev pub NoneHolds : List Fact → Type 0
+NoneHolds rows = (i : ℕ) → holdsAt rows i ≡ false
 
 -- fact i holds, and none before it
-pub record FirstToHold (p : Problem) (work cone i : ℕ) : Type 0 where
-  pub holds : fact p work cone i ≡ true
-  pub none-before : (j : ℕ) → j < i → fact p work cone j ≡ false
+pub record FirstToHold (rows : List Fact) (i : ℕ) : Type 0 where
+  pub holds : holdsAt rows i ≡ true
+  pub none-before : (j : ℕ) → j < i → holdsAt rows j ≡ false
+
+-- the refusals of a list have the numbers k, k + 1, .. on paper
+abbrev pub NumberedFrom : ℕ → List Fact → Type 0
+NumberedFrom k [] = Unit
+NumberedFrom k ((e when holds) ∷ rows) = (onPaper e ≡ turned-away k) × NumberedFrom (suc k) rows
+
+-- the number that is answered, 0 where none is
+abbrev pub numberGiven : Refusal → ℕ
+numberGiven Accepted = 0
+numberGiven (Refused e) = numberOf e
+
+-- of any list of facts: refusal i is given exactly when fact i is the first to hold, and none exactly when none holds
+pub record GivenExactly (rows : List Fact) : Type 0 where
+  pub refuses : (i : ℕ) → 1 ≤ i → (numberGiven (firstOf rows) ≡ i) ↔ FirstToHold rows i
+  pub accepts : (firstOf rows ≡ Accepted) ↔ NoneHolds rows
 
 -- "A refusal has its number, is given exactly when its fact is the first in document 01 to hold, and changes no buffer."
 pub record TurnedAwayExactly (p : Problem) (work cone : List Float) : Type 0 where
-  pub exactly : (i : ℕ) → 1 ≤ i → (numberOf (solved p work cone .answer .ending) ≡ i) ↔ FirstToHold p (length work) (length cone) i
-  pub changes-nothing : (i : ℕ) → FirstToHold p (length work) (length cone) i → solved p work cone ≡ turnedAway (solved p work cone .answer .ending) work cone
+  pub exactly : (i : ℕ) → 1 ≤ i → (numberOf (solved p work cone .answer .ending) ≡ i) ↔ FirstToHold (facts p (length work) (length cone)) i
+  pub changes-nothing : (i : ℕ) → FirstToHold (facts p (length work) (length cone)) i → solved p work cone ≡ turnedAway (solved p work cone .answer .ending) work cone
 
 -- ---- demand 3, for the problem as the run reads it: "Against 01's step rules written without stopping"
 
@@ -107,15 +124,22 @@ allPairsTwice (b ∷ bs) = pairsTwice b + allPairsTwice bs
 abbrev pub RotationsBounded : Problem → Ended → Type 0
 RotationsBounded p e = e .rotations ≤ e .steps * (p .par .«sweep_limit» * allPairsTwice (blocks p))
 
+-- the required parts of both buffers, for the problem as it is read
+abbrev pub workNeeded : Problem → ℕ
+workNeeded p = workLength (readProblem p .m) (readProblem p .n)
+
+abbrev pub coneNeeded : Problem → ℕ
+coneNeeded p = coneWork (blocks (readProblem p))
+
 -- "What the buffers held before changes none of it": two pairs of buffers, long enough for the problem
 pub record OldContentsChangeNothing (p : Problem) (work cone work' cone' : List Float) : Type 0 where
   pub answer : solved p work cone .answer ≡ solved p work' cone' .answer
-  pub work-required : take (workLength (p .m) (p .n)) (solved p work cone .work) ≡ take (workLength (p .m) (p .n)) (solved p work' cone' .work)
-  pub cone-required : take (coneWork (blocks p)) (solved p work cone .cone) ≡ take (coneWork (blocks p)) (solved p work' cone' .cone)
+  pub work-required : take (workNeeded p) (solved p work cone .work) ≡ take (workNeeded p) (solved p work' cone' .work)
+  pub cone-required : take (coneNeeded p) (solved p work cone .cone) ≡ take (coneNeeded p) (solved p work' cone' .cone)
 
 -- "places beyond it are never changed": of both buffers, with any contents and on refusal too
 pub record PlacesBeyondKept (p : Problem) (work cone : List Float) : Type 0 where
   pub work-length : length (solved p work cone .work) ≡ length work
   pub cone-length : length (solved p work cone .cone) ≡ length cone
-  pub work-beyond : drop (workLength (p .m) (p .n)) (solved p work cone .work) ≡ drop (workLength (p .m) (p .n)) work
-  pub cone-beyond : drop (coneWork (blocks p)) (solved p work cone .cone) ≡ drop (coneWork (blocks p)) cone
+  pub work-beyond : drop (workNeeded p) (solved p work cone .work) ≡ drop (workNeeded p) work
+  pub cone-beyond : drop (coneNeeded p) (solved p work cone .cone) ≡ drop (coneNeeded p) cone

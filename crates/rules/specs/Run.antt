@@ -7,10 +7,11 @@ use lib.Ieee.{Float, le}
 use lib.ListN.{length, take, drop}
 use Rattle.rules.specs.declared.Answer.{Answer}
 use Rattle.rules.specs.declared.Ending.{Ending}
-use Rattle.rules.specs.declared.Ending.the-variants.{BadParam, TooLarge, InvalidOp, BadCone, NotFinite, WorkShortage, Converged, ExcessIter, ExcessIterUnscaled, Unbounded, Infeasible, ConeFailure}
+use Rattle.rules.specs.declared.Ending.the-variants.{Converged, ExcessIter, ExcessIterUnscaled, Unbounded, Infeasible, ConeFailure}
 use Rattle.rules.specs.declared.SolverParam.{SolverParam}
 use Rattle.rules.specs.declared.Verdict.{Verdict}
 use Rattle.rules.specs.declared.Verdict.the-variants.{GoesOn, Ends}
+use Rattle.rules.specs.Outcome.{OnPaper, turned-away, ends, times-1/tau, unscaled, all-zero, onPaper}
 use Rattle.rules.specs.Helpers.{reciprocal}
 use Rattle.rules.specs.Vectors.{scaled}
 use Rattle.rules.specs.Product.{Failure, none, block, coneWork}
@@ -79,35 +80,25 @@ runFrom (suc left) p ns k q s =
     let rest = runFrom left p ns (k + 1) (q + t .rotations) (t .state) in
     finished (verdict (p .par) k (t .failure) (t .criteria)) rest k (q + t .rotations) (t .state)
 
--- ---- x and y in work
+-- ---- x and y in work: the third column of the table
+
+abbrev pub scales : OnPaper → Bool
+scales (ends row criteria failure times-1/tau) = true
+scales (ends row criteria failure unscaled) = false
+scales (ends row criteria failure all-zero) = false
+scales (turned-away i) = false
+
+abbrev pub zeroes : OnPaper → Bool
+zeroes (ends row criteria failure times-1/tau) = false
+zeroes (ends row criteria failure unscaled) = false
+zeroes (ends row criteria failure all-zero) = true
+zeroes (turned-away i) = false
 
 abbrev pub isScaled : Ending → Bool
-isScaled BadParam = false
-isScaled TooLarge = false
-isScaled InvalidOp = false
-isScaled BadCone = false
-isScaled NotFinite = false
-isScaled WorkShortage = false
-isScaled (Converged a b c) = true
-isScaled (ExcessIter a b c) = true
-isScaled (ExcessIterUnscaled a b) = false
-isScaled (Unbounded a) = false
-isScaled (Infeasible a) = false
-isScaled (ConeFailure b) = false
+isScaled e = scales (onPaper e)
 
 abbrev pub isConeFailure : Ending → Bool
-isConeFailure BadParam = false
-isConeFailure TooLarge = false
-isConeFailure InvalidOp = false
-isConeFailure BadCone = false
-isConeFailure NotFinite = false
-isConeFailure WorkShortage = false
-isConeFailure (Converged a b c) = false
-isConeFailure (ExcessIter a b c) = false
-isConeFailure (ExcessIterUnscaled a b) = false
-isConeFailure (Unbounded a) = false
-isConeFailure (Infeasible a) = false
-isConeFailure (ConeFailure b) = true
+isConeFailure e = zeroes (onPaper e)
 
 -- "x and y in work: times 1/tau" where tau is above eps_zero
 unfoldable pub finalX : Problem → Ending → List Float → List Float

@@ -7,11 +7,13 @@ use lib.ListN.{length}
 use Rattle.rules.specs.declared.Answer.{Answer}
 use Rattle.rules.specs.Product.{Failure}
 use Rattle.rules.specs.Problem.{Problem}
+use Rattle.rules.specs.Step.{State}
+use Rattle.rules.specs.declared.Norms.{Norms}
 use Rattle.rules.specs.declared.Criteria.{Criteria}
-use Rattle.rules.specs.Run.{Ended, run, leftBy}
+use Rattle.rules.specs.Run.{pieceFrom, Ended, run, leftBy}
 use Rattle.rules.specs.declared.Refusal.the-variants.{Accepted}
-use Rattle.rules.specs.Refusals.{refusal, readProblem, solved, SolveOutcome}
-use Rattle.rules.specs.Demands.{TurnedAwayExactly, EndsFirst, GoesOnExactly, ConvergedExactly, RotationsBounded, OldContentsChangeNothing, PlacesBeyondKept}
+use Rattle.rules.specs.Refusals.{Fact, refusal, readProblem, solved, SolveOutcome}
+use Rattle.rules.specs.Demands.{NumberedFrom, GivenExactly, TurnedAwayExactly, GoesByTheRules, EndsFirst, GoesOnExactly, ConvergedExactly, RotationsBounded, OldContentsChangeNothing, PlacesBeyondKept}
 use Rattle.rules.proofs.Refusals as Refusals
 use Rattle.rules.proofs.Run as Run
 use Rattle.rules.proofs.Converged as Converged
@@ -19,6 +21,10 @@ use Rattle.rules.proofs.Rotations as Rotations
 use Rattle.rules.proofs.OldContents as OldContents
 
 -- ---- demand 1
+
+-- "the first that applies answers, and none is given otherwise": of any list of facts whose refusals are numbered from 1 on
+pub given-exactly : (rows : List Fact) → NumberedFrom 1 rows → GivenExactly rows
+given-exactly = Refusals.given-exactly
 
 -- "A refusal has its number, is given exactly when its fact is the first in document 01 to hold, and changes no buffer."
 pub turned-away-exactly : (p : Problem) (work cone : List Float) → TurnedAwayExactly p work cone
@@ -43,6 +49,10 @@ places-beyond-kept = OldContents.places-beyond-kept
 -- "k is the first step where a cone fails, an ending test holds or the allowance is met, never above max(max_iter, 1)."
 pub ends-first : (p : Problem) → EndsFirst p (run p)
 ends-first = Run.ends-first
+
+-- the same of a piece: at most so many steps, from any state, halt or end by the rules
+pub goes-by-the-rules : (given : ℕ) (p : Problem) (ns : Norms) (k q : ℕ) (s : State) → GoesByTheRules given p ns k q s (pieceFrom given p ns k q s)
+goes-by-the-rules = Run.goes-by-the-rules
 
 -- no other ending, count or state is allowed by that
 pub ends-first-once : {p : Problem} {d e : Ended} → EndsFirst p d → EndsFirst p e → d ≡ e

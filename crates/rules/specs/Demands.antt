@@ -8,6 +8,7 @@ use lib.Ieee.{Float, lt, le}
 use lib.ListN.{length, take, drop}
 use Rattle.rules.specs.declared.Cone.{Cone}
 use Rattle.rules.specs.declared.Cone.the-variants.{Zero, RPos, SOC, RotSOC, PSD}
+use Rattle.rules.specs.declared.Ending.{Ending}
 use Rattle.rules.specs.declared.Ending.the-variants.{Converged}
 use Rattle.rules.specs.Product.{Failure, none, coneWork}
 use Rattle.rules.specs.Problem.{Problem, embed, blocks, workLength}
@@ -15,10 +16,11 @@ use Rattle.rules.specs.Step.{State}
 use Rattle.rules.specs.declared.Criteria.{Criteria}
 use Rattle.rules.specs.declared.Criteria.the-variants.{Conv, Inf}
 use Rattle.rules.specs.Criteria.{tauOf}
+use Rattle.rules.specs.declared.Norms.{Norms}
 use Rattle.rules.specs.Prepare.{prepared, preparedNorms}
 use Rattle.rules.specs.declared.Verdict.{Verdict}
 use Rattle.rules.specs.declared.Verdict.the-variants.{Ends, GoesOn}
-use Rattle.rules.specs.Run.{Turn, turn, verdict, allowance, Ended, run}
+use Rattle.rules.specs.Run.{Turn, turn, verdict, allowance, stateFrom, Piece, Ended, run}
 use Rattle.rules.specs.declared.Refusal.{Refusal}
 use Rattle.rules.specs.declared.Refusal.the-variants.{Accepted, Refused}
 use Rattle.rules.specs.Outcome.{onPaper, turned-away, numberOf}
@@ -63,20 +65,40 @@ pub record TurnedAwayExactly (p : Problem) (work cone : List Float) : Type 0 whe
 
 -- ---- demand 3, for the problem as the run reads it: "Against 01's step rules written without stopping"
 
--- the state after k steps, and the k-th step, from 1
-unfoldable pub stateAfter : Problem → ℕ → State
-stateAfter p zero = prepared p
-stateAfter p (suc k) = turn p (preparedNorms p) (stateAfter p k) .state
+-- From any state: the i-th further step, from 1, what it says when k steps were behind, and the rotations up to it.
+unfoldable pub stepFrom : Problem → Norms → State → ℕ → Turn
+stepFrom p ns s i = turn p ns (stateFrom p ns s (i - 1))
 
-unfoldable pub step : Problem → ℕ → Turn
-step p k = turn p (preparedNorms p) (stateAfter p (k - 1))
+abbrev pub verdictFrom : Problem → Norms → ℕ → State → ℕ → Verdict
+verdictFrom p ns k s i = verdict (p .par) (k + i) (stepFrom p ns s i .failure) (stepFrom p ns s i .criteria)
+
+unfoldable pub rotationsFrom : Problem → Norms → State → ℕ → ℕ
+rotationsFrom p ns s zero = 0
+rotationsFrom p ns s (suc i) = rotationsFrom p ns s i + stepFrom p ns s (suc i) .rotations
+
+-- A piece makes a number of steps. It halts after as many as it was given, all of which go on, or at the first that does not.
+pub record GoesByTheRules (given : ℕ) (p : Problem) (ns : Norms) (k q : ℕ) (s : State) (c : Piece) : Type 0 where
+  pub made : ℕ
+  pub at-most : made ≤ given
+  pub steps-are : c .steps ≡ k + made
+  pub state-there : c .state ≡ stateFrom p ns s made
+  pub counts : c .rotations ≡ q + rotationsFrom p ns s made
+  pub not-before : (i : ℕ) → 1 ≤ i → i < made → verdictFrom p ns k s i ≡ GoesOn
+  pub halts : c .said ≡ GoesOn → (made ≡ given) × ((i : ℕ) → 1 ≤ i → i ≤ made → verdictFrom p ns k s i ≡ GoesOn)
+  pub ends : (e : Ending) → c .said ≡ Ends e → (1 ≤ made) × (verdictFrom p ns k s made ≡ Ends e)
+
+-- the whole run's: the state after k steps, the k-th step, from 1, and the rotations up to it
+abbrev pub stateAfter : Problem → ℕ → State
+stateAfter p k = stateFrom p (preparedNorms p) (prepared p) k
+
+abbrev pub step : Problem → ℕ → Turn
+step p k = stepFrom p (preparedNorms p) (prepared p) k
 
 abbrev pub verdictAt : Problem → ℕ → Verdict
 verdictAt p k = verdict (p .par) k (step p k .failure) (step p k .criteria)
 
-unfoldable pub rotationsUpTo : Problem → ℕ → ℕ
-rotationsUpTo p zero = 0
-rotationsUpTo p (suc k) = rotationsUpTo p k + step p (suc k) .rotations
+abbrev pub rotationsUpTo : Problem → ℕ → ℕ
+rotationsUpTo p k = rotationsFrom p (preparedNorms p) (prepared p) k
 
 -- "k is the first step where a cone fails, an ending test holds or the allowance is met, never above max(max_iter, 1)."
 pub record EndsFirst (p : Problem) (e : Ended) : Type 0 where

@@ -59,6 +59,34 @@ verdict par k none (Inf unbdd infeas) =
     (cond (le infeas (par .«eps_inf»)) (Ends (Infeasible infeas))
     (cond (leb (allowance par) k) (Ends (ExcessIterUnscaled unbdd infeas)) GoesOn))
 
+-- ---- steps from any state
+
+-- the state after k steps from s, without stopping
+unfoldable pub stateFrom : Problem → Norms → State → ℕ → State
+unfolding turn
+stateFrom p ns s zero = s
+stateFrom p ns s (suc k) = turn p ns (stateFrom p ns s k) .state
+
+-- What a piece of a run comes to: what its last step said, which is GoesOn where the piece halts without an ending, and the steps and rotations made by then.
+pub record Piece : Type 0 where
+  pub said : Verdict
+  pub steps : ℕ
+  pub rotations : ℕ
+  pub state : State
+
+abbrev pub goingOn : Verdict → Piece → ℕ → ℕ → State → Piece
+goingOn GoesOn rest k q s = rest
+goingOn (Ends e) rest k q s = record { said = Ends e; steps = k; rotations = q; state = s }
+
+-- At most so many further steps from s, when k steps and q rotations are behind.
+unfoldable pub pieceFrom : ℕ → Problem → Norms → ℕ → ℕ → State → Piece
+unfolding turn verdict
+pieceFrom zero p ns k q s = record { said = GoesOn; steps = k; rotations = q; state = s }
+pieceFrom (suc more) p ns k q s =
+    let t = turn p ns s in
+    let rest = pieceFrom more p ns (k + 1) (q + t .rotations) (t .state) in
+    goingOn (verdict (p .par) (k + 1) (t .failure) (t .criteria)) rest (k + 1) (q + t .rotations) (t .state)
+
 -- ---- the run
 
 pub record Ended : Type 0 where
@@ -67,18 +95,22 @@ pub record Ended : Type 0 where
   pub rotations : ℕ
   pub state : State
 
+-- a piece with all of the allowance, which is met before the piece could halt
+abbrev pub endingOf : Verdict → Ending
+endingOf GoesOn = ConeFailure 0
+endingOf (Ends e) = e
+
+abbrev pub endedBy : Piece → Ended
+endedBy c = record { ending = endingOf (c .said); steps = c .steps; rotations = c .rotations; state = c .state }
+
 abbrev pub finished : Verdict → Ended → ℕ → ℕ → State → Ended
 finished GoesOn rest k q s = rest
 finished (Ends e) rest k q s = record { ending = e; steps = k; rotations = q; state = s }
 
--- Steps from the k-th on, with that many of the allowance left; q rotations were made before. The allowance is met before it runs out.
+-- the run's steps from the k-th on, with that many of the allowance left
 unfoldable pub runFrom : ℕ → Problem → Norms → ℕ → ℕ → State → Ended
-unfolding turn verdict
-runFrom zero p ns k q s = record { ending = ConeFailure 0; steps = k; rotations = q; state = s }
-runFrom (suc left) p ns k q s =
-    let t = turn p ns s in
-    let rest = runFrom left p ns (k + 1) (q + t .rotations) (t .state) in
-    finished (verdict (p .par) k (t .failure) (t .criteria)) rest k (q + t .rotations) (t .state)
+unfolding pieceFrom
+runFrom left p ns k q s = endedBy (pieceFrom left p ns (k - 1) q s)
 
 -- ---- x and y in work: the third column of the table
 

@@ -12,13 +12,14 @@ use Rattle.rules.specs.declared.Norms.{Norms}
 use Rattle.rules.specs.declared.Criteria.{Criteria}
 use Rattle.rules.specs.Run.{pieceFrom, Ended, run, leftBy}
 use Rattle.rules.specs.declared.Refusal.the-variants.{Accepted}
-use Rattle.rules.specs.Refusals.{Fact, refusal, readProblem, solved, SolveOutcome}
-use Rattle.rules.specs.Demands.{NumberedFrom, GivenExactly, TurnedAwayExactly, GoesByTheRules, EndsFirst, GoesOnExactly, ConvergedExactly, RotationsBounded, OldContentsChangeNothing, PlacesBeyondKept}
+use Rattle.rules.specs.Refusals.{Fact, facts, refusal, readProblem, solved, SolveOutcome}
+use Rattle.rules.specs.Demands.{NoneHolds, NumberedFrom, GivenExactly, TurnedAwayExactly, GoesByTheRules, EndsFirst, GoesOnExactly, ConvergedExactly, RotationsBounded, AnsweredByTheRules, OldContentsChangeNothing, PlacesBeyondKept}
 use Rattle.rules.proofs.Refusals as Refusals
 use Rattle.rules.proofs.Run as Run
 use Rattle.rules.proofs.Converged as Converged
 use Rattle.rules.proofs.Rotations as Rotations
 use Rattle.rules.proofs.OldContents as OldContents
+use Rattle.rules.proofs.Answered as Answered
 
 -- ---- demand 1
 
@@ -44,7 +45,13 @@ any-two-outcomes-coincide s t = Refusals.any-two-outcomes-coincide s t
 pub places-beyond-kept : (p : Problem) (work cone : List Float) → PlacesBeyondKept p work cone
 places-beyond-kept = OldContents.places-beyond-kept
 
--- ---- demand 3, for the problem as the run reads it
+-- ---- demand 3, in one
+
+-- Where no fact of the table holds: k and its law, the ending and its row, q and its bound, and x and y as they are handed back.
+pub accepted-runs-as-demanded : (p : Problem) (work cone : List Float) (answer : Answer) (work' cone' : List Float) → SolveOutcome p work cone answer work' cone' → NoneHolds (facts p (length work) (length cone)) → AnsweredByTheRules (readProblem p) answer work' cone'
+accepted-runs-as-demanded = Answered.accepted-runs-as-demanded
+
+-- ---- demand 3, of the run, for the problem as the run reads it
 
 -- "k is the first step where a cone fails, an ending test holds or the allowance is met, never above max(max_iter, 1)."
 pub ends-first : (p : Problem) → EndsFirst p (run p)

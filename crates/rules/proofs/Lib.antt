@@ -14,6 +14,7 @@ pub mod KernelLengths
 pub mod Lengths
 pub mod Accepted
 pub mod OldContents
+pub mod Answered
 pub mod Demands
 pub mod Outcome
 pub mod Vectors

@@ -141,32 +141,46 @@ shortage-as-handed p work cone = refl
 
 -- ---- an accepted run is no refusal
 
-two-unnumbered : (t l : Bool) (e e' x : Ending) → numberOf e ≡ 0 → numberOf e' ≡ 0 → cond t (Ends e) (cond l (Ends e') GoesOn) ≡ Ends x → numberOf x ≡ 0
-two-unnumbered true l e e' x h h' is =
+-- what holds of each ending that a step can say holds of the one that it says
+two-cases : (P : Ending → Type 0) (t l : Bool) (e e' x : Ending) → P e → P e' → cond t (Ends e) (cond l (Ends e') GoesOn) ≡ Ends x → P x
+two-cases P true l e e' x h h' is =
     let same : e ≡ x = cc in
     rw (← same) h
-two-unnumbered false true e e' x h h' is =
+two-cases P false true e e' x h h' is =
     let same : e' ≡ x = cc in
     rw (← same) h'
-two-unnumbered false false e e' x h h' is =
+two-cases P false false e e' x h h' is =
     let z : _≡_ {A = ℕ} 0 1 = cc in
     absurd (omega arith)
 
-three-unnumbered : (t u l : Bool) (e e' e'' x : Ending) → numberOf e ≡ 0 → numberOf e' ≡ 0 → numberOf e'' ≡ 0 → cond t (Ends e) (cond u (Ends e') (cond l (Ends e'') GoesOn)) ≡ Ends x → numberOf x ≡ 0
-three-unnumbered true u l e e' e'' x h h' h'' is =
+three-cases : (P : Ending → Type 0) (t u l : Bool) (e e' e'' x : Ending) → P e → P e' → P e'' → cond t (Ends e) (cond u (Ends e') (cond l (Ends e'') GoesOn)) ≡ Ends x → P x
+three-cases P true u l e e' e'' x h h' h'' is =
     let same : e ≡ x = cc in
     rw (← same) h
-three-unnumbered false u l e e' e'' x h h' h'' is = two-unnumbered u l e' e'' x h' h'' is
+three-cases P false u l e e' e'' x h h' h'' is = two-cases P u l e' e'' x h' h'' is
+
+pub record EachEnding (P : Ending → Type 0) (failure : Failure) (criteria : Criteria) : Type 0 where
+  pub failing : (b : ℕ) → failure ≡ block b → P (ConeFailure b)
+  pub converging : (pri dual gap : Float) → failure ≡ none → criteria ≡ Conv pri dual gap → P (Converged pri dual gap) × P (ExcessIter pri dual gap)
+  pub diverging : (unbdd infeas : Float) → failure ≡ none → criteria ≡ Inf unbdd infeas → P (Unbounded unbdd) × P (Infeasible infeas) × P (ExcessIterUnscaled unbdd infeas)
+
+pub verdict-cases : (P : Ending → Type 0) (par : SolverParam) (k : ℕ) (failure : Failure) (criteria : Criteria) (x : Ending) → EachEnding P failure criteria → verdict par k failure criteria ≡ Ends x → P x
+unfolding verdict
+verdict-cases P par k (block b) criteria x each h =
+    let same : ConeFailure b ≡ x = cc in
+    rw (← same) (each .failing b refl)
+verdict-cases P par k none (Conv pri dual gap) x each h =
+    let c = each .converging pri dual gap refl refl in
+    two-cases P (le pri (par .«eps_acc») && le dual (par .«eps_acc») && le gap (par .«eps_acc»)) (leb (allowance par) k) (Converged pri dual gap) (ExcessIter pri dual gap) x (c .0) (c .1) h
+verdict-cases P par k none (Inf unbdd infeas) x each h =
+    let c = each .diverging unbdd infeas refl refl in
+    three-cases P (le unbdd (par .«eps_inf»)) (le infeas (par .«eps_inf»)) (leb (allowance par) k) (Unbounded unbdd) (Infeasible infeas) (ExcessIterUnscaled unbdd infeas) x (c .0) (c .1) (c .2) h
 
 verdict-unnumbered : (par : SolverParam) (k : ℕ) (failure : Failure) (criteria : Criteria) (x : Ending) → verdict par k failure criteria ≡ Ends x → numberOf x ≡ 0
-unfolding verdict
-verdict-unnumbered par k (block b) criteria x h =
-    let same : ConeFailure b ≡ x = cc in
-    rw (← same)
-verdict-unnumbered par k none (Conv pri dual gap) x h =
-    two-unnumbered (le pri (par .«eps_acc») && le dual (par .«eps_acc») && le gap (par .«eps_acc»)) (leb (allowance par) k) (Converged pri dual gap) (ExcessIter pri dual gap) x refl refl h
-verdict-unnumbered par k none (Inf unbdd infeas) x h =
-    three-unnumbered (le unbdd (par .«eps_inf»)) (le infeas (par .«eps_inf»)) (leb (allowance par) k) (Unbounded unbdd) (Infeasible infeas) (ExcessIterUnscaled unbdd infeas) x refl refl refl h
+verdict-unnumbered par k failure criteria x h =
+    verdict-cases (λ e. numberOf e ≡ 0) par k failure criteria x
+    (record { failing = λ b f. refl; converging = λ pri dual gap f c. (refl, refl); diverging = λ unbdd infeas f c. (refl, refl, refl) })
+    h
 
 pub run-unnumbered : (p : Problem) → numberOf (run p .ending) ≡ 0
 run-unnumbered p =

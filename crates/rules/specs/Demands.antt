@@ -1,5 +1,5 @@
 -- The owner's demands, in words over the rules. `proofs/Demands.antt` proves them.
-use Prim.Native.Nat.{ℕ, zero, suc, _+_, _-_, _*_, _≤_, _<_}
+use Prim.Native.Nat.{ℕ, zero, suc, _+_, _-_, _*_, _≤_, _<_, max}
 use mathlib.Core.Path.{_≡_}
 use mathlib.Core.Logic.{_↔_}
 use mathlib.Core.Bool.{Bool, true, false, _&&_, _||_}
@@ -8,22 +8,25 @@ use lib.Ieee.{Float, lt, le}
 use lib.ListN.{length, take, drop}
 use Rattle.rules.specs.declared.Cone.{Cone}
 use Rattle.rules.specs.declared.Cone.the-variants.{Zero, RPos, SOC, RotSOC, PSD}
+use Rattle.rules.specs.declared.Answer.{Answer}
 use Rattle.rules.specs.declared.Ending.{Ending}
 use Rattle.rules.specs.declared.Ending.the-variants.{Converged}
-use Rattle.rules.specs.Product.{Failure, none, coneWork}
+use Rattle.rules.specs.Product.{Failure, none, block, coneWork}
 use Rattle.rules.specs.Problem.{Problem, embed, blocks, workLength}
-use Rattle.rules.specs.Step.{State}
+use Rattle.rules.specs.Step.{State, xX, xY}
 use Rattle.rules.specs.declared.Criteria.{Criteria}
 use Rattle.rules.specs.declared.Criteria.the-variants.{Conv, Inf}
 use Rattle.rules.specs.Criteria.{tauOf}
 use Rattle.rules.specs.declared.Norms.{Norms}
-use Rattle.rules.specs.Prepare.{prepared, preparedNorms}
+use Rattle.rules.specs.Prepare.{prepared, preparedNorms, zeros}
 use Rattle.rules.specs.declared.Verdict.{Verdict}
 use Rattle.rules.specs.declared.Verdict.the-variants.{Ends, GoesOn}
-use Rattle.rules.specs.Run.{Turn, turn, verdict, allowance, stateFrom, Piece, Ended, run}
+use Rattle.rules.specs.Run.{Turn, turn, verdict, allowance, stateFrom, Piece, Ended, run, solutionX, solutionY}
 use Rattle.rules.specs.declared.Refusal.{Refusal}
 use Rattle.rules.specs.declared.Refusal.the-variants.{Accepted, Refused}
-use Rattle.rules.specs.Outcome.{onPaper, turned-away, numberOf}
+use Rattle.rules.specs.Outcome.{Solution, times-1/tau, unscaled, all-zero, turned-away, ends, onPaper, numberOf}
+use Rattle.rules.specs.Helpers.{reciprocal}
+use Rattle.rules.specs.Vectors.{scaled}
 use Rattle.rules.specs.Refusals.{Fact, _when_, facts, firstOf, readProblem, solved, turnedAway}
 
 -- ---- demand 1
@@ -94,6 +97,9 @@ stateAfter p k = stateFrom p (preparedNorms p) (prepared p) k
 abbrev pub step : Problem → ℕ → Turn
 step p k = stepFrom p (preparedNorms p) (prepared p) k
 
+abbrev pub tauAfter : Problem → ℕ → Float
+tauAfter p k = tauOf (embed p) (stateAfter p k .x)
+
 abbrev pub verdictAt : Problem → ℕ → Verdict
 verdictAt p k = verdict (p .par) k (step p k .failure) (step p k .criteria)
 
@@ -145,6 +151,51 @@ allPairsTwice (b ∷ bs) = pairsTwice b + allPairsTwice bs
 -- "at most k × sweep limit × the sum of d(d−1) over semidefinite blocks of order d"
 abbrev pub RotationsBounded : Problem → Ended → Type 0
 RotationsBounded p e = e .rotations ≤ e .steps * (p .par .«sweep_limit» * allPairsTwice (blocks p))
+
+-- ---- demand 3 in one: what `solve` answers and leaves where no fact of the table holds
+
+-- step k goes on: no cone fails, no ending test holds and the allowance is not met
+pub record GoesOnAt (p : Problem) (k : ℕ) : Type 0 where
+  pub no-cone-fails : step p k .failure ≡ none
+  pub no-test-holds : endingTest p (step p k .criteria) ≡ false
+  pub not-met : k < allowance (p .par)
+
+-- "a cone fails, an ending test holds or the allowance is met"
+pub data StopsAt (p : Problem) (k : ℕ) : Type 0 where
+  cone-fails : (b : ℕ) → step p k .failure ≡ block b → StopsAt p k
+  test-holds : endingTest p (step p k .criteria) ≡ true → StopsAt p k
+  allowance-met : k ≡ allowance (p .par) → StopsAt p k
+
+-- "x and y in work: times 1/tau / unscaled / +0"
+abbrev pub handedBack : Solution → Float → List Float → List Float
+handedBack times-1/tau tau v = scaled (reciprocal tau) v
+handedBack unscaled tau v = v
+handedBack all-zero tau v = zeros (length v)
+
+-- Of the problem as it is read: the answer, and what stands in both buffers afterwards.
+pub record AnsweredByTheRules (p : Problem) (answer : Answer) (work cone : List Float) : Type 0 where
+  -- "k is the first step where a cone fails, an ending test holds or the allowance is met, never above max(max_iter, 1)."
+  pub at-least-one : 1 ≤ answer .steps
+  pub at-most : answer .steps ≤ max (p .par .«max_iter») 1
+  pub stops-there : StopsAt p (answer .steps)
+  pub goes-on-before : (k : ℕ) → 1 ≤ k → k < answer .steps → GoesOnAt p k
+  -- the ending: what step k says, and its row of the table of endings, with the criteria that it carries and the block that failed
+  pub says : verdictAt p (answer .steps) ≡ Ends (answer .ending)
+  pub row : ℕ
+  pub carried : List Float
+  pub failed : Failure
+  pub solution : Solution
+  pub on-paper : onPaper (answer .ending) ≡ ends row carried failed solution
+  pub failed-there : failed ≡ step p (answer .steps) .failure
+  pub converged : (pri dual gap : Float) → (answer .ending ≡ Converged pri dual gap) ↔ ConvergedTest p (step p (answer .steps)) pri dual gap
+  -- "q counts the rotations of those k steps, at most k × sweep limit × the sum of d(d−1) over semidefinite blocks of order d"
+  pub counts : answer .rotations ≡ rotationsUpTo p (answer .steps)
+  pub bounded : answer .rotations ≤ answer .steps * (p .par .«sweep_limit» * allPairsTwice (blocks p))
+  -- x and y as they are handed back, of the state after k steps
+  pub x-back : solutionX (p .n) work ≡ handedBack solution (tauAfter p (answer .steps)) (xX (embed p) (stateAfter p (answer .steps) .x))
+  pub y-back : solutionY (p .m) (p .n) work ≡ handedBack solution (tauAfter p (answer .steps)) (xY (embed p) (stateAfter p (answer .steps) .x))
+  -- "required part of both buffers +0"
+  pub zeroed : solution ≡ all-zero → (take (workLength (p .m) (p .n)) work ≡ zeros (workLength (p .m) (p .n))) × (take (coneWork (blocks p)) cone ≡ zeros (coneWork (blocks p)))
 
 -- the required parts of both buffers, for the problem as it is read
 abbrev pub workNeeded : Problem → ℕ

@@ -1,6 +1,7 @@
 pub mod Helpers
 pub mod Root
 pub mod RootNearest
+pub mod RootOnly
 pub mod RootPatterns
 pub mod Arithmetic
 pub mod Triangle

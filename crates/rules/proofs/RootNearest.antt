@@ -90,7 +90,7 @@ none-nearer n q k w g lead (inr p) side = subst (λ (x : ℕ). Nearer (x * k) g 
 
 -- ---- there is no tie: the square of the middle has too many digits for a number of the format
 
-even-odd : (a t : ℕ) → a % 2 ≡ 1 → a ≡ 2 * t → ⊥
+pub even-odd : (a t : ℕ) → a % 2 ≡ 1 → a ≡ 2 * t → ⊥
 even-odd a t o h = omega arith
 
 -- an odd number's digits are among those of any number that it is, shifted
@@ -205,14 +205,14 @@ apart p r g j one h = go (leb k j) (leb→le k j) (nleb→lt k j)
 
 -- ---- values in units of the least one
 
-power-le : (a l : ℕ) → 2 ^ suc a ≤ 2 ^ l → suc a ≤ l
+pub power-le : (a l : ℕ) → 2 ^ suc a ≤ 2 ^ l → suc a ≤ l
 power-le a l h = lt-of-not-le (λ g. not-le-of-lt (lt-of-lt-of-le (pow-lt (self a)) h) (pow-mono g))
   where
     self : (a : ℕ) → a < suc a
     self a = omega arith
 
 -- a value that is not too low is a whole number of units: its digits, moved up
-place : (m : ℕ) (e : ℤ) (l : ℕ) → down e ≤ 2 ^ l → (j : ℕ) × (m * up e * 2 ^ l ≡ m * 2 ^ j * down e)
+unfoldable pub place : (m : ℕ) (e : ℤ) (l : ℕ) → down e ≤ 2 ^ l → (j : ℕ) × (m * up e * 2 ^ l ≡ m * 2 ^ j * down e)
 place m (pos a) l h = (a + l, mul-assoc m (2 ^ a) (2 ^ l) ∙ ap (λ (x : ℕ). m * x) (sym (pow-add 2 a l)) ∙ sym (mul-one (m * 2 ^ (a + l))))
 place m (negsuc a) l h =
     let le : suc a ≤ l = power-le a l h in
@@ -239,11 +239,11 @@ module _ (f : Format) (s : Bool) (m : ℕ) (e : ℤ) (h : T (fits f (fin s (suc 
   abbrev D : Bool
   D = ltb (suc m * up e) (2 ^ suc (emax f) * down e)
 
-  few-digits : suc m < 2 ^ prec f
+  pub few-digits : suc m < 2 ^ prec f
   unfolding fits
   few-digits = ltb→lt (suc m) (2 ^ prec f) (and-r A B (and-l (A && B) C (and-l (A && B && C) D h)))
 
-  not-too-low : down e ≤ 2 ^ low f
+  pub not-too-low : down e ≤ 2 ^ low f
   unfolding fits
   not-too-low = leb→le (down e) (2 ^ low f) (and-r (A && B) C (and-l (A && B && C) D h))
 
@@ -251,7 +251,7 @@ module _ (f : Format) (s : Bool) (m : ℕ) (e : ℤ) (h : T (fits f (fin s (suc 
   unfolding fits
   not-too-high = ltb→lt (suc m * up e) (2 ^ suc (emax f) * down e) (and-r (A && B && C) D h)
 
-  in-units : inUnits f (fin s (suc m) e) ≡ suc m * 2 ^ place (suc m) e (low f) not-too-low .0
+  pub in-units : inUnits f (fin s (suc m) e) ≡ suc m * 2 ^ place (suc m) e (low f) not-too-low .0
   unfolding inUnits
   in-units =
       let z = place (suc m) e (low f) not-too-low in

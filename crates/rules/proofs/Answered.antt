@@ -2,6 +2,7 @@
 use Prim.Native.Nat.{ℕ, _+_, _-_, _≤_, _<_}
 use native.Mathlib.Omega.{arith}
 use mathlib.Core.Path.{_≡_, refl, sym, _∙_, ap}
+use mathlib.Core.Logic.{inl, inr}
 use mathlib.Core.Bool.{Bool, true, false, cond}
 use mathlib.Core.List.{List, _++_, append-assoc}
 use borrow.Author.Tests.{le-leb}
@@ -25,7 +26,7 @@ use Rattle.rules.specs.Criteria.{tauOf}
 use Rattle.rules.specs.Prepare.{zeros}
 use Rattle.rules.specs.Run.{Ended, isScaled, isConeFailure, verdict, allowance, finalX, laidOut, solutionX, solutionY, run, leftBy}
 use Rattle.rules.specs.Refusals.{facts, readProblem, solved, SolveOutcome}
-use Rattle.rules.specs.Demands.{NoneHolds, step, stateAfter, tauAfter, verdictAt, endingTest, GoesOnAt, EndsFirst, StopsAt, cone-fails, test-holds, allowance-met, handedBack, AnsweredByTheRules}
+use Rattle.rules.specs.Demands.{NoneHolds, step, stateAfter, tauAfter, verdictAt, endingTest, GoesOnAt, EndsFirst, StopsAt, cone-fails, test-holds, allowance-met, CarriedAt, handedBack, AnsweredByTheRules}
 use Rattle.rules.proofs.Columns.{by-less}
 use Rattle.rules.proofs.KernelLengths.{scaled-length}
 use Rattle.rules.proofs.Lengths.{Sized, xX-length, xY-length, run-sized}
@@ -92,6 +93,22 @@ names-the-failure : (par : SolverParam) (k : ℕ) (failure : Failure) (criteria 
 names-the-failure par k failure criteria x h =
     verdict-cases (λ e. failureOf (onPaper e) ≡ failure) par k failure criteria x
     (record { failing = λ b f. sym f; converging = λ pri dual gap f c. (sym f, sym f); diverging = λ unbdd infeas f c. (sym f, sym f, sym f) })
+    h
+
+-- and the numbers that it carries are those of the step
+abbrev CarriedOn : Criteria → OnPaper → Type 0
+CarriedOn criteria (turned-away i) = Unit
+CarriedOn criteria (ends row carried none solution) = CarriedAt criteria row carried
+CarriedOn criteria (ends row carried (block b) solution) = Unit
+
+carries-the-criteria : (par : SolverParam) (k : ℕ) (failure : Failure) (criteria : Criteria) (x : Ending) → verdict par k failure criteria ≡ Ends x → CarriedOn criteria (onPaper x)
+carries-the-criteria par k failure criteria x h =
+    verdict-cases (λ e. CarriedOn criteria (onPaper e)) par k failure criteria x
+    (record {
+      failing = λ b f. tt;
+      converging = λ pri dual gap f c. (rw c, rw c);
+      diverging = λ unbdd infeas f c. (rw c (inr (inl (refl, refl))), rw c (inr (inr (refl, refl))), rw c (inl (refl, refl)));
+    })
     h
 
 -- ---- what a run leaves at the front of work
@@ -227,6 +244,7 @@ module _ (p : Problem) (work cone : List Float) (h : Sized p (run p .state)) whe
         failed = r .failed;
         solution = r .solution;
         on-paper = r .on-paper;
+        carried-there = λ f. rw f at (rw (r .on-paper) at (carries-the-criteria (p .par) k (step p k .failure) (step p k .criteria) (run p .ending) (first .ends-there)));
         failed-there = sym (ap failureOf (r .on-paper)) ∙ names-the-failure (p .par) k (step p k .failure) (step p k .criteria) (run p .ending) (first .ends-there);
         converged = converged-exactly p .exactly;
         counts = first .counts;

@@ -1,5 +1,5 @@
 -- The owner's demands hold of the rules: each statement of `specs/Demands.antt`, with its proof's place.
-use Prim.Native.Nat.{ℕ}
+use Prim.Native.Nat.{ℕ, _+_}
 use mathlib.Core.Path.{_≡_}
 use mathlib.Core.List.{List}
 use lib.Ieee.{Float}
@@ -10,7 +10,7 @@ use Rattle.rules.specs.Problem.{Problem}
 use Rattle.rules.specs.Step.{State}
 use Rattle.rules.specs.declared.Norms.{Norms}
 use Rattle.rules.specs.declared.Criteria.{Criteria}
-use Rattle.rules.specs.Run.{pieceFrom, Ended, run, leftBy}
+use Rattle.rules.specs.Run.{pieceFrom, takenUp, Ended, run, leftBy}
 use Rattle.rules.specs.declared.Refusal.the-variants.{Accepted}
 use Rattle.rules.specs.Refusals.{Fact, facts, refusal, readProblem, solved, SolveOutcome}
 use Rattle.rules.specs.Demands.{NoneHolds, NumberedFrom, GivenExactly, TurnedAwayExactly, GoesByTheRules, EndsFirst, GoesOnExactly, ConvergedExactly, RotationsBounded, AnsweredByTheRules, OldContentsChangeNothing, PlacesBeyondKept}
@@ -60,6 +60,10 @@ ends-first = Run.ends-first
 -- the same of a piece: at most so many steps, from any state, halt or end by the rules
 pub goes-by-the-rules : (given : ℕ) (p : Problem) (ns : Norms) (k q : ℕ) (s : State) → GoesByTheRules given p ns k q s (pieceFrom given p ns k q s)
 goes-by-the-rules = Run.goes-by-the-rules
+
+-- and however a piece is cut, its parts come to the whole
+pub pieces-join : (a b : ℕ) (p : Problem) (ns : Norms) (k q : ℕ) (s : State) → pieceFrom (a + b) p ns k q s ≡ takenUp b p ns (pieceFrom a p ns k q s)
+pieces-join = Run.pieces-join
 
 -- no other ending, count or state is allowed by that
 pub ends-first-once : {p : Problem} {d e : Ended} → EndsFirst p d → EndsFirst p e → d ≡ e

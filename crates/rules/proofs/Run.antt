@@ -20,7 +20,7 @@ use Rattle.rules.specs.declared.Norms.{Norms}
 use Rattle.rules.specs.Prepare.{prepared, preparedNorms}
 use Rattle.rules.specs.declared.Verdict.{Verdict}
 use Rattle.rules.specs.declared.Verdict.the-variants.{Ends, GoesOn}
-use Rattle.rules.specs.Run.{Turn, turn, verdict, allowance, stateFrom, Piece, goingOn, pieceFrom, Ended, endedBy, finished, runFrom, run}
+use Rattle.rules.specs.Run.{Turn, turn, verdict, allowance, stateFrom, Piece, goingOn, pieceFrom, takenUp, Ended, endedBy, finished, runFrom, run}
 use Rattle.rules.specs.Demands.{stepFrom, verdictFrom, rotationsFrom, GoesByTheRules, stateAfter, step, verdictAt, rotationsUpTo, EndsFirst, endingTest, GoesOnExactly}
 use Rattle.rules.proofs.Columns.{by-less}
 
@@ -157,6 +157,22 @@ goes-by-the-rules given p ns k q s =
     let none-made : k + 0 ≡ k = omega arith in
     let none-turned : q + rotationsFrom p ns s 0 ≡ q = omega (arith, no-rotations p ns s) in
     rw (none-made, none-turned, no-steps p ns s) at (piece-from p ns k q s given given 0 (omega arith) (λ i l h. absurd (omega arith)))
+
+joined-more : (p : Problem) (ns : Norms) (a b k q : ℕ) (s : State) (t : Turn) → t ≡ turn p ns s → pieceFrom (a + b) p ns (k + 1) (q + t .rotations) (t .state) ≡ takenUp b p ns (pieceFrom a p ns (k + 1) (q + t .rotations) (t .state)) → pieceFrom (suc a + b) p ns k q s ≡ takenUp b p ns (pieceFrom (suc a) p ns k q s)
+joined-more p ns a b k q s t e rest =
+    let more : suc a + b ≡ suc (a + b) = omega arith in
+    rw (more, piece-more p ns (a + b) k q s t e, piece-more p ns a k q s t e) (go (verdict (p .par) (k + 1) (t .failure) (t .criteria)))
+  where
+    go : (v : Verdict) → goingOn v (pieceFrom (a + b) p ns (k + 1) (q + t .rotations) (t .state)) (k + 1) (q + t .rotations) (t .state) ≡ takenUp b p ns (goingOn v (pieceFrom a p ns (k + 1) (q + t .rotations) (t .state)) (k + 1) (q + t .rotations) (t .state))
+    go GoesOn = rest
+    go (Ends x) = refl
+
+-- However a piece is cut, its parts come to the whole.
+pub pieces-join : (a b : ℕ) (p : Problem) (ns : Norms) (k q : ℕ) (s : State) → pieceFrom (a + b) p ns k q s ≡ takenUp b p ns (pieceFrom a p ns k q s)
+pieces-join zero b p ns k q s =
+    let all : 0 + b ≡ b = omega arith in
+    rw (all, piece-none p ns k q s)
+pieces-join (suc a) b p ns k q s = joined-more p ns a b k q s (turn p ns s) refl (pieces-join a b p ns (k + 1) (q + turn p ns s .rotations) (turn p ns s .state))
 
 -- ---- the run
 

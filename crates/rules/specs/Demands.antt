@@ -1,7 +1,7 @@
 -- The owner's demands, in words over the rules. `proofs/Demands.antt` proves them.
 use Prim.Native.Nat.{ℕ, zero, suc, _+_, _-_, _*_, _≤_, _<_, max}
 use mathlib.Core.Path.{_≡_}
-use mathlib.Core.Logic.{_↔_}
+use mathlib.Core.Logic.{_↔_, _⊎_}
 use mathlib.Core.Bool.{Bool, true, false, _&&_, _||_}
 use mathlib.Core.List.{List, [], _∷_}
 use lib.Ieee.{Float, lt, le}
@@ -166,6 +166,12 @@ pub data StopsAt (p : Problem) (k : ℕ) : Type 0 where
   test-holds : endingTest p (step p k .criteria) ≡ true → StopsAt p k
   allowance-met : k ≡ allowance (p .par) → StopsAt p k
 
+-- "Each ending carries the criteria that decided it as numbers": of a step's criteria those that a row of the table carries
+abbrev pub CarriedAt : Criteria → ℕ → List Float → Type 0
+CarriedAt (Conv pri dual gap) row carried = carried ≡ pri ∷ dual ∷ gap ∷ []
+CarriedAt (Inf unbdd infeas) row carried =
+    ((row ≡ 3) × (carried ≡ unbdd ∷ infeas ∷ [])) ⊎ (((row ≡ 4) × (carried ≡ unbdd ∷ [])) ⊎ ((row ≡ 5) × (carried ≡ infeas ∷ [])))
+
 -- "x and y in work: times 1/tau / unscaled / +0"
 abbrev pub handedBack : Solution → Float → List Float → List Float
 handedBack times-1/tau tau v = scaled (reciprocal tau) v
@@ -186,6 +192,7 @@ pub record AnsweredByTheRules (p : Problem) (answer : Answer) (work cone : List 
   pub failed : Failure
   pub solution : Solution
   pub on-paper : onPaper (answer .ending) ≡ ends row carried failed solution
+  pub carried-there : failed ≡ none → CarriedAt (step p (answer .steps) .criteria) row carried
   pub failed-there : failed ≡ step p (answer .steps) .failure
   pub converged : (pri dual gap : Float) → (answer .ending ≡ Converged pri dual gap) ↔ ConvergedTest p (step p (answer .steps)) pri dual gap
   -- "q counts the rotations of those k steps, at most k × sweep limit × the sum of d(d−1) over semidefinite blocks of order d"

@@ -87,6 +87,10 @@ pieceFrom (suc more) p ns k q s =
     let rest = pieceFrom more p ns (k + 1) (q + t .rotations) (t .state) in
     goingOn (verdict (p .par) (k + 1) (t .failure) (t .criteria)) rest (k + 1) (q + t .rotations) (t .state)
 
+-- a piece taken up again, for at most so many steps more; one that has ended stays as it is
+abbrev pub takenUp : ℕ → Problem → Norms → Piece → Piece
+takenUp more p ns c = goingOn (c .said) (pieceFrom more p ns (c .steps) (c .rotations) (c .state)) (c .steps) (c .rotations) (c .state)
+
 -- ---- the run
 
 pub record Ended : Type 0 where

@@ -1,9 +1,9 @@
 -- An accepted problem is answered by the rules, and x and y are handed back as its ending says.
-use Prim.Native.Nat.{ℕ, _+_, _-_, _≤_, _<_}
+use Prim.Native.Nat.{ℕ, _+_, _-_, _≤_}
 use native.Mathlib.Omega.{arith}
 use mathlib.Core.Path.{_≡_, refl, sym, _∙_, ap}
 use mathlib.Core.Logic.{inl, inr}
-use mathlib.Core.Bool.{Bool, true, false, cond}
+use mathlib.Core.Bool.{Bool, true, false}
 use mathlib.Core.List.{List, _++_, append-assoc}
 use borrow.Author.Tests.{le-leb}
 use lib.Ieee.{Float}
@@ -15,17 +15,17 @@ use Rattle.rules.specs.declared.Ending.the-variants.{BadParam, TooLarge,
 use Rattle.rules.specs.declared.Criteria.{Criteria}
 use Rattle.rules.specs.declared.SolverParam.{SolverParam}
 use Rattle.rules.specs.declared.Verdict.the-variants.{Ends, GoesOn}
-use Rattle.rules.specs.Outcome.{OnPaper, Solution, times-1/tau, unscaled, all-zero, turned-away, ends, onPaper, numberOf}
+use Rattle.rules.specs.Outcome.{OnPaper, Solution, times-1/tau, unscaled, all-zero, turned-away, ends, onPaper}
 use Rattle.rules.specs.Helpers.{reciprocal}
 use Rattle.rules.specs.Arithmetic.{+0}
 use Rattle.rules.specs.Vectors.{scaled}
 use Rattle.rules.specs.Product.{Failure, none, block, coneWork}
-use Rattle.rules.specs.Problem.{Problem, embed, blocks, lengthX, workLength}
-use Rattle.rules.specs.Step.{State, xX, xY}
+use Rattle.rules.specs.Problem.{Problem, embed, blocks, workLength}
+use Rattle.rules.specs.Step.{xX, xY}
 use Rattle.rules.specs.Criteria.{tauOf}
 use Rattle.rules.specs.Prepare.{zeros}
 use Rattle.rules.specs.Run.{Ended, isScaled, isConeFailure, verdict, allowance, finalX, laidOut, solutionX, solutionY, run, leftBy}
-use Rattle.rules.specs.Refusals.{facts, readProblem, solved, SolveOutcome}
+use Rattle.rules.specs.Refusals.{facts, numberOf, readProblem, SolveOutcome}
 use Rattle.rules.specs.Demands.{NoneHolds, step, stateAfter, tauAfter, verdictAt, endingTest, GoesOnAt, EndsFirst, StopsAt, cone-fails, test-holds, allowance-met, CarriedAt, handedBack, AnsweredByTheRules}
 use Rattle.rules.proofs.Columns.{by-less}
 use Rattle.rules.proofs.KernelLengths.{scaled-length}
@@ -222,12 +222,19 @@ module _ (p : Problem) (work cone : List Float) (h : Sized p (run p .state)) whe
       rw (← first .state-there)
       (y-part (p .n) (p .m) (handedBack (r .solution) t X) (handedBack (r .solution) t Y) (leftBy p work cone (run p) .work) (handed-length p (run p) h (r .solution) X ∙ xX-length (embed p) (run p .state .x) (h .x)) (handed-length p (run p) h (r .solution) Y ∙ xY-length (embed p) (run p .state .x) (h .x)) starts)
 
+  front : (take (workLength (p .m) (p .n)) (leftBy p work cone (run p) .work) ≡ requiredWork p (run p)) × (take (coneWork (blocks p)) (leftBy p work cone (run p) .cone) ≡ requiredCone p (run p))
+  front = (
+    rw (left-work-is p work cone (run p)) (take-at (requiredWork p (run p)) (drop (workLength (p .m) (p .n)) work) (workLength (p .m) (p .n)) (requiredWork-length p (run p) h)),
+    rw (left-cone-is p work cone (run p)) (take-at (requiredCone p (run p)) (drop (coneWork (blocks p)) cone) (coneWork (blocks p)) (requiredCone-length p (run p) h)),
+  )
+
+  all-laid : isConeFailure (run p .ending) ≡ false → (take (workLength (p .m) (p .n)) (leftBy p work cone (run p) .work) ≡ laidOut p (run p .ending) (stateAfter p (run p .steps))) × (take (coneWork (blocks p)) (leftBy p work cone (run p) .cone) ≡ stateAfter p (run p .steps) .cone)
+  all-laid held = (rw (← first .state-there) (front .0 ∙ rw held), rw (← first .state-there) (front .1 ∙ rw held))
+
   all-zeroed : r .solution ≡ all-zero → (take (workLength (p .m) (p .n)) (leftBy p work cone (run p) .work) ≡ zeros (workLength (p .m) (p .n))) × (take (coneWork (blocks p)) (leftBy p work cone (run p) .cone) ≡ zeros (coneWork (blocks p)))
   all-zeroed z =
-      let failed : isConeFailure (run p .ending) ≡ true = rw (r .on-paper, z) in (
-        rw (left-work-is p work cone (run p)) (take-at (requiredWork p (run p)) (drop (workLength (p .m) (p .n)) work) (workLength (p .m) (p .n)) (requiredWork-length p (run p) h) ∙ rw failed),
-        rw (left-cone-is p work cone (run p)) (take-at (requiredCone p (run p)) (drop (coneWork (blocks p)) cone) (coneWork (blocks p)) (requiredCone-length p (run p) h) ∙ rw failed),
-      )
+      let failed : isConeFailure (run p .ending) ≡ true = rw (r .on-paper, z) in
+      (front .0 ∙ rw failed, front .1 ∙ rw failed)
 
   answered : AnsweredByTheRules p (leftBy p work cone (run p) .answer) (leftBy p work cone (run p) .work) (leftBy p work cone (run p) .cone)
   answered =
@@ -251,6 +258,7 @@ module _ (p : Problem) (work cone : List Float) (h : Sized p (run p .state)) whe
         bounded = run-bounded p;
         x-back = x-handed;
         y-back = y-handed;
+        laid = all-laid;
         zeroed = all-zeroed;
       })
 

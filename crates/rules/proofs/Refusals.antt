@@ -21,8 +21,7 @@ use Rattle.rules.specs.Run.{verdict, allowance, run, Left, leftBy}
 use Rattle.rules.specs.declared.Refusal.{Refusal}
 use Rattle.rules.specs.declared.Refusal.the-variants.{Accepted, Refused}
 use Rattle.rules.specs.Blocks.{isBadCone}
-use Rattle.rules.specs.Outcome.{refusalOn, numberOf}
-use Rattle.rules.specs.Refusals.{Fact, _when_, facts, firstOf, refusal, badCone, shortBuffers, workShortage, readProblem, turnedAway, leftAfter, solved, SolveOutcome}
+use Rattle.rules.specs.Refusals.{Fact, _when_, facts, firstOf, refusalOn, numberOf, refusal, badCone, shortBuffers, workShortage, readProblem, turnedAway, leftAfter, solved, SolveOutcome}
 use Rattle.rules.specs.Demands.{holdsAt, NoneHolds, FirstToHold, NumberedFrom, numberGiven, GivenExactly, TurnedAwayExactly, step}
 use Rattle.rules.proofs.Columns.{by-less}
 use Rattle.rules.proofs.Run.{ends-first}
@@ -215,6 +214,7 @@ module _ (p : Problem) (work cone : List Float) where
         exactly = λ i h.
             let g = table-given p (length work) (length cone) .refuses i h in
             (λ e. g .0 (sym number ∙ e), λ f. number ∙ g .1 f);
+        none-otherwise = λ n. number ∙ ap numberGiven (table-given p (length work) (length cone) .accepts .1 n);
         changes-nothing = unchanged-by ran r (rw (refusal-is p (length work) (length cone)) (says 0 rows (numbered p (length work) (length cone))));
       }
 

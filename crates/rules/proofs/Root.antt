@@ -10,7 +10,7 @@ use lib.Dec.{T, isLe, isEq, leb, leb→le, nleb→lt, eqb→eq}
 use lib.Pow.{pow-pos, pow-mono, pow-add}
 use lib.Ieee.{binary64, size, nearest, odd, units}
 use lib.Ieee.Digits.{size-lt, size-le}
-use Rattle.rules.specs.Root.{rootDigits, wholeRoot, rootOfUnits, root}
+use Rattle.rules.specs.Root.{rootDigits, wholeRoot, rootOfUnits}
 
 -- ---- squares
 

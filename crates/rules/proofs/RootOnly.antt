@@ -1,9 +1,9 @@
 -- The nearest number of the format is the only one that is nearest: a number that passes `NoneNearer` is the root. Assumes nothing.
 use Prim.Native.Nat.{ℕ, zero, suc, _+_, _-_, _*_, _/_, _%_, _^_, _≤_, _<_}
-use native.Mathlib.Nat.{le-antisymm, le-of-eq, le-trans, lt-of-lt-of-le, lt-irrefl, zero-lt-suc, add-comm, mul-one, one-mul, mul-pos, zero-mul, zero-div, pow-succ'}
+use native.Mathlib.Nat.{le-antisymm, lt-irrefl, zero-lt-suc, add-comm, mul-one, one-mul, mul-pos, zero-mul, zero-div, pow-succ'}
 use native.Mathlib.Omega.{arith}
 use mathlib.Core.Path.{_≡_, refl, sym, ap, _∙_, subst}
-use mathlib.Core.Bool.{Bool, true, false, not, _&&_}
+use mathlib.Core.Bool.{Bool, true, false, _&&_}
 use lib.IntN.{ℤ, pos, negsuc}
 use lib.Dec.{T, leb, ltb, eqb, eqb→eq}
 use lib.Pow.{pow-pos}

@@ -21,13 +21,13 @@ use Rattle.rules.specs.declared.Norms.{Norms}
 use Rattle.rules.specs.Prepare.{prepared, preparedNorms, zeros}
 use Rattle.rules.specs.declared.Verdict.{Verdict}
 use Rattle.rules.specs.declared.Verdict.the-variants.{Ends, GoesOn}
-use Rattle.rules.specs.Run.{Turn, turn, verdict, allowance, stateFrom, Piece, Ended, run, solutionX, solutionY}
+use Rattle.rules.specs.Run.{Turn, turn, verdict, allowance, stateFrom, Piece, Ended, isConeFailure, laidOut, solutionX, solutionY}
 use Rattle.rules.specs.declared.Refusal.{Refusal}
 use Rattle.rules.specs.declared.Refusal.the-variants.{Accepted, Refused}
-use Rattle.rules.specs.Outcome.{Solution, times-1/tau, unscaled, all-zero, turned-away, ends, onPaper, numberOf}
+use Rattle.rules.specs.Outcome.{Solution, times-1/tau, unscaled, all-zero, turned-away, ends, onPaper}
 use Rattle.rules.specs.Helpers.{reciprocal}
 use Rattle.rules.specs.Vectors.{scaled}
-use Rattle.rules.specs.Refusals.{Fact, _when_, facts, firstOf, readProblem, solved, turnedAway}
+use Rattle.rules.specs.Refusals.{Fact, _when_, facts, firstOf, numberOf, readProblem, solved, turnedAway}
 
 -- ---- demand 1
 
@@ -64,6 +64,7 @@ pub record GivenExactly (rows : List Fact) : Type 0 where
 -- "A refusal has its number, is given exactly when its fact is the first in document 01 to hold, and changes no buffer."
 pub record TurnedAwayExactly (p : Problem) (work cone : List Float) : Type 0 where
   pub exactly : (i : ℕ) → 1 ≤ i → (numberOf (solved p work cone .answer .ending) ≡ i) ↔ FirstToHold (facts p (length work) (length cone)) i
+  pub none-otherwise : NoneHolds (facts p (length work) (length cone)) → numberOf (solved p work cone .answer .ending) ≡ 0
   pub changes-nothing : (i : ℕ) → FirstToHold (facts p (length work) (length cone)) i → solved p work cone ≡ turnedAway (solved p work cone .answer .ending) work cone
 
 -- ---- demand 3, for the problem as the run reads it: "Against 01's step rules written without stopping"
@@ -201,7 +202,8 @@ pub record AnsweredByTheRules (p : Problem) (answer : Answer) (work cone : List 
   -- x and y as they are handed back, of the state after k steps
   pub x-back : solutionX (p .n) work ≡ handedBack solution (tauAfter p (answer .steps)) (xX (embed p) (stateAfter p (answer .steps) .x))
   pub y-back : solutionY (p .m) (p .n) work ≡ handedBack solution (tauAfter p (answer .steps)) (xY (embed p) (stateAfter p (answer .steps) .x))
-  -- "required part of both buffers +0"
+  -- all of the required parts: as step k left them, but for x and y, or "required part of both buffers +0"
+  pub laid : isConeFailure (answer .ending) ≡ false → (take (workLength (p .m) (p .n)) work ≡ laidOut p (answer .ending) (stateAfter p (answer .steps))) × (take (coneWork (blocks p)) cone ≡ stateAfter p (answer .steps) .cone)
   pub zeroed : solution ≡ all-zero → (take (workLength (p .m) (p .n)) work ≡ zeros (workLength (p .m) (p .n))) × (take (coneWork (blocks p)) cone ≡ zeros (coneWork (blocks p)))
 
 -- the required parts of both buffers, for the problem as it is read

@@ -1,4 +1,5 @@
--- Document 01, "What each routine owes": the complete outcome of a routine that may answer a plain no, and what its paper says of an answer that is an enum.
+-- Document 01, "What each routine owes": the complete outcome of a routine that may answer a plain no, and this paper's number and values for
+-- an answer that is an enum.
 use Prim.Native.Nat.{ℕ}
 use mathlib.Core.Path.{_≡_}
 use mathlib.Core.Bool.{Bool, cond}
@@ -40,11 +41,3 @@ onPaper (ExcessIterUnscaled unbdd infeas) = ends 3 (unbdd ∷ infeas ∷ []) non
 onPaper (Unbounded unbdd) = ends 4 (unbdd ∷ []) none unscaled
 onPaper (Infeasible infeas) = ends 5 (infeas ∷ []) none unscaled
 onPaper (ConeFailure b) = ends 6 [] (block b) all-zero
-
--- the number of a refusal; an ending of a run has none
-abbrev pub refusalOn : OnPaper → ℕ
-refusalOn (turned-away i) = i
-refusalOn (ends row criteria failure solution) = 0
-
-abbrev pub numberOf : Ending → ℕ
-numberOf e = refusalOn (onPaper e)

@@ -22,6 +22,7 @@ use Rattle.rules.specs.Blocks.{isBadCone, blocksOf}
 use Rattle.rules.specs.Projections.{sweepsFit}
 use Rattle.rules.specs.Product.{coneWork}
 use Rattle.rules.specs.Problem.{Problem, matrixOf, workLength, asRead}
+use Rattle.rules.specs.Outcome.{OnPaper, turned-away, ends, onPaper}
 use Rattle.rules.specs.Run.{Left, run, leftBy}
 
 -- the problem as the run reads it
@@ -112,6 +113,14 @@ firstOf ((e when holds) ∷ rows) = cond holds (Refused e) (firstOf rows)
 unfoldable pub refusal : Problem → ℕ → ℕ → Refusal
 unfolding firstOf badParam tooLarge invalidOp badCone notFinite workShortage
 refusal p work cone = firstOf (facts p work cone)
+
+-- the number of a refusal on paper; an ending of a run has none
+abbrev pub refusalOn : OnPaper → ℕ
+refusalOn (turned-away i) = i
+refusalOn (ends row criteria failure solution) = 0
+
+abbrev pub numberOf : Ending → ℕ
+numberOf e = refusalOn (onPaper e)
 
 -- ---- the whole outcome
 

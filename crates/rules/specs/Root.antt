@@ -1,6 +1,6 @@
 -- Document 01, "Port order", 1: "Root: correctly rounded to nearest; −0 gives −0, below zero NaN", stated over whole numbers.
 -- IEEE 754-2019, 5.4.1: the root of a number above zero is the exact root, rounded once.
-use Prim.Native.Nat.{ℕ, zero, suc, _+_, _-_, _*_, _/_, _^_, _≤_, _<_, compare}
+use Prim.Native.Nat.{ℕ, zero, suc, _+_, _-_, _*_, _/_, _^_, _<_, compare}
 use mathlib.Core.Bool.{Bool, true, false, not, cond}
 use lib.Dec.{T, leb}
 use lib.Ieee.{Float, nan, inf, fin, Format, prec, low, up, down, size, nearest, units, fits}

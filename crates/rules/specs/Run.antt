@@ -111,7 +111,7 @@ abbrev pub finished : Verdict → Ended → ℕ → ℕ → State → Ended
 finished GoesOn rest k q s = rest
 finished (Ends e) rest k q s = record { ending = e; steps = k; rotations = q; state = s }
 
--- the run's steps from the k-th on, with that many of the allowance left
+-- the run's steps from the k-th on, with that many of the allowance left: what a loop over the steps is proved to make
 unfoldable pub runFrom : ℕ → Problem → Norms → ℕ → ℕ → State → Ended
 unfolding pieceFrom
 runFrom left p ns k q s = endedBy (pieceFrom left p ns (k - 1) q s)

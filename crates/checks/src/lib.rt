@@ -1,24 +1,25 @@
 // When the hub is turned away: the six tests, in order. Sizes are bounded before any arithmetic on them.
+use rules::Cols;
 use rules::Ending;
 use rules::LIMIT;
 use rules::MOST_STEPS;
 use rules::MOST_SWEEPS;
 use rules::MOST_WORDS;
 use rules::Refusal;
+use rules::Rows;
 use rules::SolverParam;
 use rules::Storage;
 ghost use Prim.Native.Nat.{_≤_};
 ghost use mathlib.Core.Path.{_≡_};
 ghost use Rattle.rules.specs.Limits.{limit};
-ghost use Rattle.rules.specs.Refusals.{isFinite, allFinite, badParam, refusal};
+ghost use Rattle.rules.specs.Refusals.{isFinite, allFinite, badParam, largeSizes, wrongLengths, someInfinite, shortBuffers, refusal};
 ghost use Rattle.rules.specs.Problem.{problemOf, asRead};
-ghost use Rattle.checks.specs.Check.{largeSizes, wrongLengths, someInfinite, shortBuffers};
 
 // The first test that applies.
 pub fn check(
     par: SolverParam,
-    m: usize,
-    n: usize,
+    rows: Rows,
+    cols: Cols,
     storage: Storage,
     c: &[f64],
     a: &[f64],
@@ -27,8 +28,10 @@ pub fn check(
     work: usize,
     cone_work: usize,
 ) -> Refusal
-    ensures { λ r. ⌜ r ≡ refusal (problemOf m n storage (now (c .entry)) (now (a .entry)) (now (b .entry)) (now (words .entry)) par) work «cone_work» ⌝ }
+    ensures { λ r. ⌜ r ≡ refusal (problemOf (rows .0) (cols .0) storage (now (c .entry)) (now (a .entry)) (now (b .entry)) (now (words .entry)) par) work «cone_work» ⌝ }
 {
+    let m = rows.0;
+    let n = cols.0;
     let param_is_bad = bad_param(par);
     let size_is_too_large = too_large(m, n, words);
     if param_is_bad {

@@ -18,7 +18,7 @@ use Rattle.rules.specs.declared.Norms.{Norms}
 use Rattle.rules.specs.Prepare.{preparedNorms}
 use Rattle.rules.specs.declared.Verdict.the-variants.{Ends, GoesOn}
 use Rattle.rules.specs.Run.{turn, verdict, allowance, run}
-use Rattle.rules.specs.Demands.{stateAfter, step, ConvergedTest, ConvergedExactly}
+use Rattle.rules.specs.Demands.{stepFrom, stateAfter, step, ConvergedTest, ConvergedExactly}
 use Rattle.rules.proofs.Run.{ends-first}
 
 -- ---- the verdict
@@ -83,7 +83,7 @@ unfolding turn
 turn-above p ns s pri dual gap h = tau-is-above p ns (updated p s .state .x) (updated p s .state .rx) pri dual gap h
 
 step-above : (p : Problem) (k : ℕ) (pri dual gap : Float) → step p k .criteria ≡ Conv pri dual gap → lt (p .par .«eps_zero») (tauOf (embed p) (step p k .state .x)) ≡ true
-unfolding step
+unfolding stepFrom
 step-above p k pri dual gap h = turn-above p (preparedNorms p) (stateAfter p (k - 1)) pri dual gap h
 
 -- ---- the run

@@ -20,7 +20,7 @@ use Rattle.rules.specs.Run.{Ended, isScaled, isConeFailure, finalX, laid
 use Rattle.rules.specs.declared.Refusal.{Refusal}
 use Rattle.rules.specs.declared.Refusal.the-variants.{Accepted, Refused}
 use Rattle.rules.specs.Refusals.{refusal, readProblem, turnedAway, solved}
-use Rattle.rules.specs.Demands.{OldContentsChangeNothing, PlacesBeyondKept}
+use Rattle.rules.specs.Demands.{workNeeded, coneNeeded, OldContentsChangeNothing, PlacesBeyondKept}
 use Rattle.rules.proofs.KernelLengths.{scaled-length}
 use Rattle.rules.proofs.Lengths.{Sized, xX-length, xY-length, run-sized}
 use Rattle.rules.proofs.Accepted.{accepted-fits, read-fits}
@@ -85,7 +85,6 @@ unfolding solved
 solved-accepted p work cone e = rw e
 
 pub old-contents-change-nothing : (p : Problem) (work cone work' cone' : List Float) → refusal p (length work) (length cone) ≡ Accepted → refusal p (length work') (length cone') ≡ Accepted → OldContentsChangeNothing p work cone work' cone'
-unfolding readProblem
 old-contents-change-nothing p work cone work' cone' e e' =
     let q = readProblem p in
     let s : Sized q (run q .state) = run-sized q (read-fits p (accepted-fits p (length work) (length cone) e .fitting)) in
@@ -124,7 +123,7 @@ solved-refused : (p : Problem) (work cone : List Float) (x : Ending) → refusal
 unfolding solved
 solved-refused p work cone x e = rw e
 
-solved-kept : (p : Problem) (work cone : List Float) (r : Refusal) → refusal p (length work) (length cone) ≡ r → Kept (workLength (p .m) (p .n)) (coneWork (blocks p)) work cone (solved p work cone)
+solved-kept : (p : Problem) (work cone : List Float) (r : Refusal) → refusal p (length work) (length cone) ≡ r → Kept (workNeeded p) (coneNeeded p) work cone (solved p work cone)
 unfolding readProblem
 solved-kept p work cone Accepted e =
     let q = readProblem p in

@@ -17,9 +17,9 @@ use Rattle.rules.specs.Product.{Passed, projAll, isNone}
 use Rattle.rules.specs.Problem.{Problem, embed, blocks}
 use Rattle.rules.specs.Step.{State, movedX, projected, updated, xX, xY, xS}
 use Rattle.rules.specs.declared.Norms.{Norms}
-use Rattle.rules.specs.Prepare.{preparedNorms}
-use Rattle.rules.specs.Run.{turn, run}
-use Rattle.rules.specs.Demands.{stateAfter, step, rotationsUpTo, pairsTwice, allPairsTwice, RotationsBounded}
+use Rattle.rules.specs.Prepare.{prepared, preparedNorms}
+use Rattle.rules.specs.Run.{turn, stateFrom, run}
+use Rattle.rules.specs.Demands.{stepFrom, rotationsFrom, pairsTwice, allPairsTwice, RotationsBounded}
 use Rattle.rules.proofs.Jacobi.{rotations-bounded}
 use Rattle.rules.proofs.KernelLengths.{swept}
 use Rattle.rules.proofs.Run.{ends-first}
@@ -92,14 +92,14 @@ turn-bounded : (p : Problem) (ns : Norms) (s : State) → turn p ns s .rotations
 unfolding turn updated
 turn-bounded p ns s = projected-bounded p (movedX p s .x) (movedX p s .cone)
 
--- ---- a run
+-- ---- steps from any state, and a run
 
-steps-bounded : (p : Problem) (k : ℕ) → rotationsUpTo p k ≤ k * (p .par .«sweep_limit» * allPairsTwice (blocks p))
-unfolding rotationsUpTo step
-steps-bounded p zero = omega arith
-steps-bounded p (suc k) =
+pub steps-bounded : (p : Problem) (ns : Norms) (s : State) (k : ℕ) → rotationsFrom p ns s k ≤ k * (p .par .«sweep_limit» * allPairsTwice (blocks p))
+unfolding rotationsFrom stepFrom
+steps-bounded p ns s zero = omega arith
+steps-bounded p ns s (suc k) =
     let most = p .par .«sweep_limit» * allPairsTwice (blocks p) in
-    omega (arith, steps-bounded p k, turn-bounded p (preparedNorms p) (stateAfter p (suc k - 1)), suc-mul k most)
+    omega (arith, steps-bounded p ns s k, turn-bounded p ns (stateFrom p ns s (suc k - 1)), suc-mul k most)
 
 pub run-bounded : (p : Problem) → RotationsBounded p (run p)
-run-bounded p = omega (arith, ends-first p .counts, steps-bounded p (run p .steps))
+run-bounded p = omega (arith, ends-first p .counts, steps-bounded p (preparedNorms p) (prepared p) (run p .steps))

@@ -7,10 +7,11 @@ use lib.Ieee.{Float, le}
 use lib.ListN.{length, take, drop}
 use Rattle.rules.specs.declared.Answer.{Answer}
 use Rattle.rules.specs.declared.Ending.{Ending}
-use Rattle.rules.specs.declared.Ending.the-variants.{BadParam, TooLarge, InvalidOp, BadCone, NotFinite, WorkShortage, Converged, ExcessIter, ExcessIterUnscaled, Unbounded, Infeasible, ConeFailure}
+use Rattle.rules.specs.declared.Ending.the-variants.{Converged, ExcessIter, ExcessIterUnscaled, Unbounded, Infeasible, ConeFailure}
 use Rattle.rules.specs.declared.SolverParam.{SolverParam}
 use Rattle.rules.specs.declared.Verdict.{Verdict}
 use Rattle.rules.specs.declared.Verdict.the-variants.{GoesOn, Ends}
+use Rattle.rules.specs.Outcome.{OnPaper, turned-away, ends, times-1/tau, unscaled, all-zero, onPaper}
 use Rattle.rules.specs.Helpers.{reciprocal}
 use Rattle.rules.specs.Vectors.{scaled}
 use Rattle.rules.specs.Product.{Failure, none, block, coneWork}
@@ -58,6 +59,38 @@ verdict par k none (Inf unbdd infeas) =
     (cond (le infeas (par .«eps_inf»)) (Ends (Infeasible infeas))
     (cond (leb (allowance par) k) (Ends (ExcessIterUnscaled unbdd infeas)) GoesOn))
 
+-- ---- steps from any state
+
+-- the state after k steps from s, without stopping
+unfoldable pub stateFrom : Problem → Norms → State → ℕ → State
+unfolding turn
+stateFrom p ns s zero = s
+stateFrom p ns s (suc k) = turn p ns (stateFrom p ns s k) .state
+
+-- What a piece of a run comes to: what its last step said, which is GoesOn where the piece halts without an ending, and the steps and rotations made by then.
+pub record Piece : Type 0 where
+  pub said : Verdict
+  pub steps : ℕ
+  pub rotations : ℕ
+  pub state : State
+
+abbrev pub goingOn : Verdict → Piece → ℕ → ℕ → State → Piece
+goingOn GoesOn rest k q s = rest
+goingOn (Ends e) rest k q s = record { said = Ends e; steps = k; rotations = q; state = s }
+
+-- At most so many further steps from s, when k steps and q rotations are behind.
+unfoldable pub pieceFrom : ℕ → Problem → Norms → ℕ → ℕ → State → Piece
+unfolding turn verdict
+pieceFrom zero p ns k q s = record { said = GoesOn; steps = k; rotations = q; state = s }
+pieceFrom (suc more) p ns k q s =
+    let t = turn p ns s in
+    let rest = pieceFrom more p ns (k + 1) (q + t .rotations) (t .state) in
+    goingOn (verdict (p .par) (k + 1) (t .failure) (t .criteria)) rest (k + 1) (q + t .rotations) (t .state)
+
+-- a piece taken up again, for at most so many steps more; one that has ended stays as it is
+abbrev pub takenUp : ℕ → Problem → Norms → Piece → Piece
+takenUp more p ns c = goingOn (c .said) (pieceFrom more p ns (c .steps) (c .rotations) (c .state)) (c .steps) (c .rotations) (c .state)
+
 -- ---- the run
 
 pub record Ended : Type 0 where
@@ -66,48 +99,42 @@ pub record Ended : Type 0 where
   pub rotations : ℕ
   pub state : State
 
+-- a piece with all of the allowance, which is met before the piece could halt
+abbrev pub endingOf : Verdict → Ending
+endingOf GoesOn = ConeFailure 0
+endingOf (Ends e) = e
+
+abbrev pub endedBy : Piece → Ended
+endedBy c = record { ending = endingOf (c .said); steps = c .steps; rotations = c .rotations; state = c .state }
+
 abbrev pub finished : Verdict → Ended → ℕ → ℕ → State → Ended
 finished GoesOn rest k q s = rest
 finished (Ends e) rest k q s = record { ending = e; steps = k; rotations = q; state = s }
 
--- Steps from the k-th on, with that many of the allowance left; q rotations were made before. The allowance is met before it runs out.
+-- the run's steps from the k-th on, with that many of the allowance left: what a loop over the steps is proved to make
 unfoldable pub runFrom : ℕ → Problem → Norms → ℕ → ℕ → State → Ended
-unfolding turn verdict
-runFrom zero p ns k q s = record { ending = ConeFailure 0; steps = k; rotations = q; state = s }
-runFrom (suc left) p ns k q s =
-    let t = turn p ns s in
-    let rest = runFrom left p ns (k + 1) (q + t .rotations) (t .state) in
-    finished (verdict (p .par) k (t .failure) (t .criteria)) rest k (q + t .rotations) (t .state)
+unfolding pieceFrom
+runFrom left p ns k q s = endedBy (pieceFrom left p ns (k - 1) q s)
 
--- ---- x and y in work
+-- ---- x and y in work: the third column of the table
+
+abbrev pub scales : OnPaper → Bool
+scales (ends row criteria failure times-1/tau) = true
+scales (ends row criteria failure unscaled) = false
+scales (ends row criteria failure all-zero) = false
+scales (turned-away i) = false
+
+abbrev pub zeroes : OnPaper → Bool
+zeroes (ends row criteria failure times-1/tau) = false
+zeroes (ends row criteria failure unscaled) = false
+zeroes (ends row criteria failure all-zero) = true
+zeroes (turned-away i) = false
 
 abbrev pub isScaled : Ending → Bool
-isScaled BadParam = false
-isScaled TooLarge = false
-isScaled InvalidOp = false
-isScaled BadCone = false
-isScaled NotFinite = false
-isScaled WorkShortage = false
-isScaled (Converged a b c) = true
-isScaled (ExcessIter a b c) = true
-isScaled (ExcessIterUnscaled a b) = false
-isScaled (Unbounded a) = false
-isScaled (Infeasible a) = false
-isScaled (ConeFailure b) = false
+isScaled e = scales (onPaper e)
 
 abbrev pub isConeFailure : Ending → Bool
-isConeFailure BadParam = false
-isConeFailure TooLarge = false
-isConeFailure InvalidOp = false
-isConeFailure BadCone = false
-isConeFailure NotFinite = false
-isConeFailure WorkShortage = false
-isConeFailure (Converged a b c) = false
-isConeFailure (ExcessIter a b c) = false
-isConeFailure (ExcessIterUnscaled a b) = false
-isConeFailure (Unbounded a) = false
-isConeFailure (Infeasible a) = false
-isConeFailure (ConeFailure b) = true
+isConeFailure e = zeroes (onPaper e)
 
 -- "x and y in work: times 1/tau" where tau is above eps_zero
 unfoldable pub finalX : Problem → Ending → List Float → List Float

@@ -55,7 +55,7 @@ pub const MOST_STEPS: u64 = 1000000;
 pub const MOST_WORDS: usize = 32;
 
 // The most places of a list of blocks: their rotations, at most MOST_SWEEPS a place, then fit 64 bits.
-pub const MOST_PLACES: usize = 288230376151711743;
+pub const MOST_PLACES: usize = (18446744073709551615 / MOST_SWEEPS) as usize;
 
 // The parameters of a run.
 pub struct SolverParam {

@@ -1,25 +1,22 @@
-// The criteria of a step, and what they say of the run.
-use crate::criteria;
-use crate::shape;
-use crate::shape::Norms;
+// What the criteria of a step say of the run.
+use criteria::Judged;
+use rules::Criteria;
+use rules::Ending;
+use rules::Norms;
+use rules::Shape;
 use rules::SolverParam;
-use rules::Storage;
-use verdict::Verdict;
+use rules::Verdict;
 ghost use mathlib.Core.Path.{_≡_};
 ghost use Rattle.rules.specs.Criteria.{judged};
-ghost use Rattle.rules.specs.Problem.{matrixOf};
+ghost use Rattle.rules.specs.Problem.{embedIn};
 ghost use Rattle.rules.specs.Product.{none};
 ghost use Rattle.rules.specs.Run as rules;
-ghost use Rattle.solver.specs.Fitting.{embedOf, Fits, LikeX};
-ghost use Rattle.solver.specs.Verdict.{normsOf};
-ghost use Rattle.verdict.specs.Verdict.{asVerdict};
+ghost use Rattle.shape.specs.Fitting.{Fits, LikeX};
 
 // The criteria of a step whose cones did not fail, and what they say.
 pub(crate) fn judge(
     par: SolverParam,
-    m: usize,
-    n: usize,
-    storage: Storage,
+    shape: Shape,
     c: &[f64],
     a: &[f64],
     b: &[f64],
@@ -28,18 +25,26 @@ pub(crate) fn judge(
     x: &[f64],
     rx: &mut [f64],
 ) -> Verdict
-    requires { ⌜ Fits (embedOf m n (matrixOf storage m n) (now c) (now a) (now b)) ⌝ }
-    requires { ⌜ LikeX m n (now x) ⌝ }
-    requires { ⌜ LikeX m n (now rx) ⌝ }
-    ensures says { λ r. ⌜ asVerdict r ≡ rules.verdict par k none (judged (embedOf m n (matrixOf storage m n) (now (c .entry)) (now (a .entry)) (now (b .entry))) (par .«eps_zero») (normsOf norms) (now (x .entry)) (now (rx .entry)) .criteria) ⌝ }
-    ensures rx_left { λ r. ⌜ now (rx .exit) ≡ judged (embedOf m n (matrixOf storage m n) (now (c .entry)) (now (a .entry)) (now (b .entry))) (par .«eps_zero») (normsOf norms) (now (x .entry)) (now (rx .entry)) .rx ⌝ }
+    requires { ⌜ Fits shape (now c) (now a) (now b) ⌝ }
+    requires { ⌜ LikeX shape (now x) ⌝ }
+    requires { ⌜ LikeX shape (now rx) ⌝ }
+    ensures says { λ r. ⌜ r ≡ rules.verdict par k none (judged (embedIn shape (now (c .entry)) (now (a .entry)) (now (b .entry))) (par .«eps_zero») norms (now (x .entry)) (now (rx .entry)) .criteria) ⌝ }
+    ensures rx_left { λ r. ⌜ now (rx .exit) ≡ judged (embedIn shape (now (c .entry)) (now (a .entry)) (now (b .entry))) (par .«eps_zero») norms (now (x .entry)) (now (rx .entry)) .rx ⌝ }
 {
-    let t = shape::matrix_of(storage, m, n);
-    if x[n + m + m] > par.eps_zero {
-        let r = criteria::criteria_conv(m, n, t, c, a, b, x, norms, rx);
-        verdict::of_conv(par, k, r.pri, r.dual, r.gap)
-    } else {
-        let r = criteria::criteria_inf(m, n, t, c, a, b, x, norms, par.eps_zero, rx);
-        verdict::of_inf(par, k, r.unbdd, r.infeas)
+    let j = criteria::judge(par, shape, c, a, b, norms, x, rx);
+    match j {
+        Judged::Of(found) => says(par, k, found),
+        // the sizes always fit here
+        Judged::No => Verdict::Ends(Ending::ConeFailure(0)),
+    }
+}
+
+// What a step's criteria say at step k.
+fn says(par: SolverParam, k: u64, found: Criteria) -> Verdict
+    ensures { λ r. ⌜ r ≡ rules.verdict par k none found ⌝ }
+{
+    match found {
+        Criteria::Conv(pri, dual, gap) => verdict::of_conv(par, k, pri, dual, gap),
+        Criteria::Inf(unbdd, infeas) => verdict::of_inf(par, k, unbdd, infeas),
     }
 }

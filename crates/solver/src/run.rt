@@ -1,22 +1,21 @@
 // The run: a loop over steps, up to the one that ends.
 use crate::judge;
-use crate::shape::Norms;
-use crate::update;
 use rules::Answer;
 use rules::Ending;
+use rules::Norms;
 use rules::Product;
+use rules::Shape;
 use rules::SolverParam;
-use rules::Storage;
-use verdict::Verdict;
+use rules::Verdict;
+use step::update_vecs;
 ghost use Prim.Native.Nat.{_≤_};
 ghost use Rattle.rules.specs.Limits.{mostSteps};
-ghost use Rattle.rules.specs.Problem.{problemOf};
-ghost use Rattle.solver.specs.Fitting.{stateOf, LikeX, LikeY, Ready, Needed};
-ghost use Rattle.solver.specs.Run.{TurnedBy, Iterated};
-ghost use Rattle.solver.specs.Verdict.{normsOf};
+ghost use Rattle.rules.specs.Problem.{problemIn};
+ghost use Rattle.step.specs.Update.{stateOf, StepReady};
+ghost use Rattle.solver.specs.Run.{SteppedBy, Iterated};
 
 // A step's verdict, with the rotations that it made.
-pub struct Turned {
+pub struct Stepped {
     pub verdict: Verdict,
     pub rotations: u64,
 }
@@ -24,9 +23,7 @@ pub struct Turned {
 // The steps from the first on.
 pub(crate) fn iterate(
     par: SolverParam,
-    m: usize,
-    n: usize,
-    storage: Storage,
+    shape: Shape,
     c: &[f64],
     a: &[f64],
     b: &[f64],
@@ -40,25 +37,16 @@ pub(crate) fn iterate(
     tx: &mut [f64],
     cone_work: &mut [f64],
 ) -> Answer
-    requires { ⌜ Ready (problemOf m n storage (now c) (now a) (now b) (now words) par) ⌝ }
-    requires { ⌜ LikeX m n (now x) ⌝ }
-    requires { ⌜ LikeY m n (now y) ⌝ }
-    requires { ⌜ LikeX m n (now «dp_tau») ⌝ }
-    requires { ⌜ LikeY m n (now «dp_sigma») ⌝ }
-    requires { ⌜ LikeX m n (now rx) ⌝ }
-    requires { ⌜ LikeX m n (now tx) ⌝ }
-    requires { ⌜ Needed (problemOf m n storage (now c) (now a) (now b) (now words) par) (now «cone_work») ⌝ }
+    requires { ⌜ StepReady par shape (now c) (now a) (now b) (now words) (stateOf (now x) (now y) (now «dp_tau») (now «dp_sigma») (now rx) (now tx) (now «cone_work»)) ⌝ }
     requires { ⌜ par .«max_iter» ≤ mostSteps ⌝ }
-    ensures { λ r. ⌜ Iterated (problemOf m n storage (now (c .entry)) (now (a .entry)) (now (b .entry)) (now (words .entry)) par) (normsOf norms) (stateOf (now (x .entry)) (now (y .entry)) (now («dp_tau» .entry)) (now («dp_sigma» .entry)) (now (rx .entry)) (now (tx .entry)) (now («cone_work» .entry))) r (stateOf (now (x .exit)) (now (y .exit)) (now («dp_tau» .entry)) (now («dp_sigma» .entry)) (now (rx .exit)) (now (tx .exit)) (now («cone_work» .exit))) ⌝ }
+    ensures { λ r. ⌜ Iterated (problemIn shape (now (c .entry)) (now (a .entry)) (now (b .entry)) (now (words .entry)) par) norms (stateOf (now (x .entry)) (now (y .entry)) (now («dp_tau» .entry)) (now («dp_sigma» .entry)) (now (rx .entry)) (now (tx .entry)) (now («cone_work» .entry))) r (stateOf (now (x .exit)) (now (y .exit)) (now («dp_tau» .entry)) (now («dp_sigma» .entry)) (now (rx .exit)) (now (tx .exit)) (now («cone_work» .exit))) ⌝ }
 {
     let mut k: u64 = 1;
     let mut q: u64 = 0;
     loop {
-        let t = turn(
+        let t = step_on(
             par,
-            m,
-            n,
-            storage,
+            shape,
             c,
             a,
             b,
@@ -91,11 +79,9 @@ pub(crate) fn iterate(
 }
 
 // One whole step, and whether it ends.
-fn turn(
+fn step_on(
     par: SolverParam,
-    m: usize,
-    n: usize,
-    storage: Storage,
+    shape: Shape,
     c: &[f64],
     a: &[f64],
     b: &[f64],
@@ -109,22 +95,13 @@ fn turn(
     rx: &mut [f64],
     tx: &mut [f64],
     cone_work: &mut [f64],
-) -> Turned
-    requires { ⌜ Ready (problemOf m n storage (now c) (now a) (now b) (now words) par) ⌝ }
-    requires { ⌜ LikeX m n (now x) ⌝ }
-    requires { ⌜ LikeY m n (now y) ⌝ }
-    requires { ⌜ LikeX m n (now «dp_tau») ⌝ }
-    requires { ⌜ LikeY m n (now «dp_sigma») ⌝ }
-    requires { ⌜ LikeX m n (now rx) ⌝ }
-    requires { ⌜ LikeX m n (now tx) ⌝ }
-    requires { ⌜ Needed (problemOf m n storage (now c) (now a) (now b) (now words) par) (now «cone_work») ⌝ }
-    ensures { λ r. ⌜ TurnedBy (problemOf m n storage (now (c .entry)) (now (a .entry)) (now (b .entry)) (now (words .entry)) par) (normsOf norms) k (stateOf (now (x .entry)) (now (y .entry)) (now («dp_tau» .entry)) (now («dp_sigma» .entry)) (now (rx .entry)) (now (tx .entry)) (now («cone_work» .entry))) r (stateOf (now (x .exit)) (now (y .exit)) (now («dp_tau» .entry)) (now («dp_sigma» .entry)) (now (rx .exit)) (now (tx .exit)) (now («cone_work» .exit))) ⌝ }
+) -> Stepped
+    requires { ⌜ StepReady par shape (now c) (now a) (now b) (now words) (stateOf (now x) (now y) (now «dp_tau») (now «dp_sigma») (now rx) (now tx) (now «cone_work»)) ⌝ }
+    ensures { λ r. ⌜ SteppedBy (problemIn shape (now (c .entry)) (now (a .entry)) (now (b .entry)) (now (words .entry)) par) norms k (stateOf (now (x .entry)) (now (y .entry)) (now («dp_tau» .entry)) (now («dp_sigma» .entry)) (now (rx .entry)) (now (tx .entry)) (now («cone_work» .entry))) r (stateOf (now (x .exit)) (now (y .exit)) (now («dp_tau» .entry)) (now («dp_sigma» .entry)) (now (rx .exit)) (now (tx .exit)) (now («cone_work» .exit))) ⌝ }
 {
-    let p = update::update_vecs(
+    let p = update_vecs(
         par,
-        m,
-        n,
-        storage,
+        shape,
         c,
         a,
         b,
@@ -139,20 +116,20 @@ fn turn(
     );
     match p {
         Product::Done(q) => {
-            let v = judge::judge(par, m, n, storage, c, a, b, norms, k, x, rx);
-            Turned {
+            let v = judge::judge(par, shape, c, a, b, norms, k, x, rx);
+            Stepped {
                 verdict: v,
                 rotations: q,
             }
         }
         Product::Failed(block, q) => {
-            Turned {
+            Stepped {
                 verdict: Verdict::Ends(Ending::ConeFailure(block)),
                 rotations: q,
             }
         }
         // the sizes always fit here
-        Product::No => Turned {
+        Product::No => Stepped {
             verdict: Verdict::Ends(Ending::ConeFailure(0)),
             rotations: 0,
         },

@@ -23,11 +23,11 @@ shapeOf p = record { rows = record { 0 = p .m }; cols = record { 0 = p .n }; sto
 abbrev pub problemFits : Problem → Bool
 problemFits p = operatorsFit (shapeOf p) (p .c) (p .a) (p .b) && not (isBadCone (p .words) (p .m))
 
--- the latter by itself
+-- the list alone
 pub record Covers (shape : Shape) (words : List ℕ) : Type 0 where
   pub is : isBadCone words (shape .rows .0) ≡ false
 
--- so do the two diagonals
+-- .. and the two diagonals are a vector like x and one like y
 abbrev pub precondFits : Problem → List Float → List Float → Bool
 precondFits p tau sigma = problemFits p && fitsX (shapeOf p) tau && fitsY (shapeOf p) sigma
 

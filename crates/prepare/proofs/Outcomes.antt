@@ -1,5 +1,6 @@
 -- Laws of the complete outcome of preparing.
 use Prim.Native.Nat.{ℕ}
+use native.Mathlib.Omega.{arith}
 use mathlib.Core.Path.{_≡_, sym, _∙_}
 use mathlib.Core.Bool.{true, false}
 use mathlib.Core.List.{List}
@@ -43,12 +44,11 @@ module _ {p : Problem} {x y tau sigma tau' sigma' : List Float} where
         sigma-left = rw (e, is-sigma);
       }
 
--- for a caller whose lengths and cone list fit
+-- what a caller learns whose lengths and cone list fit
 pub prepare-fits : {shape : Shape} {c a b : List Float} {words : List ℕ} (par : SolverParam) {x y tau sigma : List Float} → Fits shape c a b → Covers shape words → LikeX shape x → LikeY shape y → LikeX shape tau → LikeY shape sigma
     → prepareFits (problemIn shape c a b words par) x y tau sigma ≡ true
 prepare-fits par f l x y tau sigma = rw (x-fits (sizes-within f) x, y-fits (sizes-within f) y) (precond-fits par f l tau sigma)
 
--- what it learns: the answer, and the four vectors
 pub record PreparedBy (p : Problem) (x y tau : List Float) (answer : Prepared) (x' y' tau' sigma' : List Float) : Type 0 where
   pub answer-is : answer ≡ Done (norms (embed p) x)
   pub x-is : x' ≡ startX (embed p) x
@@ -56,9 +56,12 @@ pub record PreparedBy (p : Problem) (x y tau : List Float) (answer : Prepared) (
   pub tau-is : tau' ≡ dpTauOf p tau
   pub sigma-is : sigma' ≡ dpSigmaOf p tau
 
-pub prepared-ruled : {p : Problem} {x y tau sigma : List Float} {answer : Prepared} {x' y' tau' sigma' : List Float}
-    → PreparedOutcome p x y tau sigma answer x' y' tau' sigma' → prepareFits p x y tau sigma ≡ true → PreparedBy p x y tau answer x' y' tau' sigma'
-prepared-ruled o e =
+pub prepared-where-fits : {shape : Shape} {c a b : List Float} {words : List ℕ} {par : SolverParam} {x y tau sigma : List Float} {answer : Prepared} {x' y' tau' sigma' : List Float}
+    → PreparedOutcome (problemIn shape c a b words par) x y tau sigma answer x' y' tau' sigma'
+    → Fits shape c a b → Covers shape words → LikeX shape x → LikeY shape y → LikeX shape tau → LikeY shape sigma
+    → PreparedBy (problemIn shape c a b words par) x y tau answer x' y' tau' sigma'
+prepared-where-fits {par = par} o f l x y tau sigma =
+    let e = prepare-fits par f l x y tau sigma in
     record {
       answer-is = rw e at (o .answered);
       x-is = rw e at (o .x-left);
@@ -66,3 +69,17 @@ prepared-ruled o e =
       tau-is = rw e at (o .tau-left);
       sigma-is = rw e at (o .sigma-left);
     }
+
+-- its answer is never a plain no, and holds the norms
+module _ {p : Problem} {x y tau : List Float} {answer : Prepared} {x' y' tau' sigma' : List Float} (by : PreparedBy p x y tau answer x' y' tau' sigma') where
+  pub prepared-some : answer ≡ No → ⊥
+  prepared-some is = some (sym is ∙ by .answer-is)
+    where
+      some : {ns : Norms} → No ≡ Done ns → ⊥
+      some e = let z : _≡_ {A = ℕ} 0 1 = cc in omega arith
+
+  pub prepared-norms : {ns : Norms} → answer ≡ Done ns → ns ≡ norms (embed p) x
+  prepared-norms is = same (sym is ∙ by .answer-is)
+    where
+      same : {v w : Norms} → Done v ≡ Done w → v ≡ w
+      same e = cc

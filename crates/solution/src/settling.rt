@@ -1,7 +1,9 @@
 // How an ending leaves work and cone work.
 use crate::parts;
+use rules::Cols;
 use rules::Ending;
 use rules::LIMIT;
+use rules::Rows;
 ghost use Prim.Native.Nat.{_≤_};
 ghost use mathlib.Core.Path.{_≡_};
 ghost use mathlib.Core.List.{_++_};
@@ -15,8 +17,8 @@ ghost use Rattle.solution.specs.Settle.{lengthsFit, Fitting, Settled, Se
 // the required part of work, and all of cone work, become +0. Where a length or a size doesn't fit, it answers
 // no and changes nothing.
 pub fn settle(
-    m: usize,
-    n: usize,
+    rows: Rows,
+    cols: Cols,
     ending: Ending,
     x: &mut [f64],
     y: &[f64],
@@ -27,8 +29,10 @@ pub fn settle(
     work: &mut [f64],
     cone_work: &mut [f64],
 ) -> bool
-    ensures { λ r. ⌜ SettleOutcome m n (now (x .entry)) (now (y .entry)) (now («dp_tau» .entry)) (now («dp_sigma» .entry)) (now (rx .entry)) (now (tx .entry)) (now (work .entry)) ending (now («cone_work» .entry)) r (now (x .exit)) (now (work .exit)) (now («cone_work» .exit)) ⌝ }
+    ensures { λ r. ⌜ SettleOutcome (rows .0) (cols .0) (now (x .entry)) (now (y .entry)) (now («dp_tau» .entry)) (now («dp_sigma» .entry)) (now (rx .entry)) (now (tx .entry)) (now (work .entry)) ending (now («cone_work» .entry)) r (now (x .exit)) (now (work .exit)) (now («cone_work» .exit)) ⌝ }
 {
+    let m = rows.0;
+    let n = cols.0;
     if !settle_fits(
         m,
         n,

@@ -15,14 +15,14 @@ use Rattle.rules.specs.declared.SolverParam.{SolverParam}
 use Rattle.rules.specs.Limits.{limit, mostPlaces}
 use Rattle.rules.specs.Blocks.{hasBadWord, blocksOf, totalPlaces, isBadCone}
 use Rattle.rules.specs.Projections.{sweepsFit}
-use Rattle.rules.specs.Product.{coneWork, blocksWithin, sumsFit, lengthsFit, productAnswer}
+use Rattle.rules.specs.Product.{coneWork, blocksWithin, sumsFit, lengthsFit}
 use Rattle.rules.specs.Problem.{Problem}
-use Rattle.rules.specs.Step.{State, updated}
+use Rattle.rules.specs.Step.{State}
 use Rattle.rules.proofs.Matrices.{both-true}
 use Rattle.shape.specs.Fitting.{operatorsFit, fitsX, fitsY, Fits, LikeX, LikeY}
 use Rattle.shape.proofs.Fitting.{sizes-within, operators-fit, fits-of, x-fits, y-fits, like-x, like-y}
 use Rattle.step.specs.Moves.{ConesReady}
-use Rattle.step.specs.Update.{vectorsFit, stepFits, stepped, StepReady, StepOutcome}
+use Rattle.step.specs.Update.{vectorsFit, stepFits, StepReady, StepOutcome}
 use Rattle.step.proofs.Cones.{blocks-within}
 
 -- ---- the cones
@@ -88,8 +88,8 @@ module _ {fits : Bool} {p : Problem} {s : State} where
   step-taken e o = record { answered = rw e (o .answered); left = rw e (o .left) }
 
   -- for a caller whose sizes fit
-  pub step-ruled : {answer : Product} {s' : State} → StepOutcome fits p s answer s' → fits ≡ true → (answer ≡ productAnswer (updated p s .rotations) (updated p s .failure)) × (s' ≡ stepped p s)
-  step-ruled o e = (rw e at (o .answered), rw e at (o .left))
+  pub step-true : {answer : Product} {s' : State} → StepOutcome fits p s answer s' → fits ≡ true → StepOutcome true p s answer s'
+  step-true o e = record { answered = rw e at (o .answered); left = rw e at (o .left) }
 
   pub step-outcomes-coincide : {a b : Product} {s' t : State} → StepOutcome fits p s a s' → StepOutcome fits p s b t → (a ≡ b) × (s' ≡ t)
   step-outcomes-coincide o q = (o .answered ∙ sym (q .answered), o .left ∙ sym (q .left))

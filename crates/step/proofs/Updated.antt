@@ -55,7 +55,7 @@ y-rule p x y dpTau dpSigma rx tx cone = refl
 
 -- ---- one after another
 
-none-left : (p : Problem) (s : State) → updated p s .failure ≡ none → stepped p s ≡ updated p s .state
+pub none-left : (p : Problem) (s : State) → updated p s .failure ≡ none → stepped p s ≡ updated p s .state
 unfolding stepped
 none-left p s e = rw e
 

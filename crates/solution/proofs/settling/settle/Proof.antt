@@ -11,11 +11,11 @@ use Rattle.solution.proofs.settling.settle.Tie as tie
 settle-fits-requires : tie.Need-settle-fits-requires
 settle-fits-requires c κs = search needs
 
-fits : (c : tie.Else1) → settleFits (c .before .before .before .before .before .before .before .before .before .before .args .m) (c .before .before .before .before .before .before .before .before .before .before .args .n) (c .before .before .before .before .before .before .before .before .before .before .args .x .now) (c .before .before .before .before .before .before .before .before .before .before .args .y .now) (c .before .before .before .before .before .before .before .before .before .before .args .dp-tau .now) (c .before .before .before .before .before .before .before .before .before .before .args .dp-sigma .now) (c .before .before .before .before .before .before .before .before .before .before .args .rx .now) (c .before .before .before .before .before .before .before .before .before .before .args .tx .now) (c .before .before .before .before .before .before .before .before .before .before .args .work .now) ≡ true
+fits : (c : tie.Else1) → settleFits (c .before .before .before .before .before .before .before .before .before .before .args .rows .0) (c .before .before .before .before .before .before .before .before .before .before .args .cols .0) (c .before .before .before .before .before .before .before .before .before .before .args .x .now) (c .before .before .before .before .before .before .before .before .before .before .args .y .now) (c .before .before .before .before .before .before .before .before .before .before .args .dp-tau .now) (c .before .before .before .before .before .before .before .before .before .before .args .dp-sigma .now) (c .before .before .before .before .before .before .before .before .before .before .args .rx .now) (c .before .before .before .before .before .before .before .before .before .before .args .tx .now) (c .before .before .before .before .before .before .before .before .before .before .args .work .now) ≡ true
 unfolding settleFits
 fits c = sym (c .before .settle-fits .ensures) ∙ not-false _ (c .if1 .left)
 
-misfit : (c : tie.Then1) → settleFits (c .before .before .before .before .before .before .before .before .before .before .args .m) (c .before .before .before .before .before .before .before .before .before .before .args .n) (c .before .before .before .before .before .before .before .before .before .before .args .x .now) (c .before .before .before .before .before .before .before .before .before .before .args .y .now) (c .before .before .before .before .before .before .before .before .before .before .args .dp-tau .now) (c .before .before .before .before .before .before .before .before .before .before .args .dp-sigma .now) (c .before .before .before .before .before .before .before .before .before .before .args .rx .now) (c .before .before .before .before .before .before .before .before .before .before .args .tx .now) (c .before .before .before .before .before .before .before .before .before .before .args .work .now) ≡ false
+misfit : (c : tie.Then1) → settleFits (c .before .before .before .before .before .before .before .before .before .before .args .rows .0) (c .before .before .before .before .before .before .before .before .before .before .args .cols .0) (c .before .before .before .before .before .before .before .before .before .before .args .x .now) (c .before .before .before .before .before .before .before .before .before .before .args .y .now) (c .before .before .before .before .before .before .before .before .before .before .args .dp-tau .now) (c .before .before .before .before .before .before .before .before .before .before .args .dp-sigma .now) (c .before .before .before .before .before .before .before .before .before .before .args .rx .now) (c .before .before .before .before .before .before .before .before .before .before .args .tx .now) (c .before .before .before .before .before .before .before .before .before .before .args .work .now) ≡ false
 unfolding settleFits
 misfit c = sym (c .before .settle-fits .ensures) ∙ not-true _ (c .if1 .taken)
 

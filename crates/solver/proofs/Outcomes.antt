@@ -1,0 +1,126 @@
+-- What the entry point's branches say: a problem turned away, and an accepted one as the run reads it.
+use Prim.Native.Nat.{ℕ, zero, suc, _+_, _-_, _*_, _≤_}
+use native.Mathlib.Omega.{arith}
+use mathlib.Core.Path.{_≡_, refl, sym, _∙_, ap}
+use mathlib.Core.Bool.{true}
+use mathlib.Core.List.{List, _∷_}
+use borrow.Author.Tests.{le-leb}
+use lib.Ieee.{Float}
+use lib.ListN.{length, take, drop, replicate}
+use lib.Seq.{length-take-le}
+use Rattle.rules.specs.declared.Answer.{Answer}
+use Rattle.rules.specs.declared.Ending.{Ending}
+use Rattle.rules.specs.declared.Shape.{Shape}
+use Rattle.rules.specs.declared.Storage.{Storage}
+use Rattle.rules.specs.declared.Storage.the-variants.{Dense, Packed}
+use Rattle.rules.specs.declared.SolverParam.{SolverParam}
+use Rattle.rules.specs.Arithmetic.{+0}
+use Rattle.rules.specs.Limits.{limit}
+use Rattle.rules.specs.Matrices.{nRow, nCol}
+use Rattle.rules.specs.Projections.{sweepsFit}
+use Rattle.rules.specs.Product.{coneWork}
+use Rattle.rules.specs.Problem.{Problem, asRead, blocks, matrixOf, lengthX, lengthY, problemOf}
+use Rattle.rules.specs.Prepare.{zeros}
+use Rattle.rules.specs.Run.{leftBy}
+use Rattle.rules.specs.declared.Refusal.{Refusal}
+use Rattle.rules.specs.declared.Refusal.the-variants.{Accepted, Refused}
+use Rattle.rules.specs.Refusals.{refusal, isPacked, readProblem, turnedAway, solved, SolveOutcome}
+use Rattle.rules.proofs.Accepted.{AllFits, accepted-fits}
+use Rattle.rules.proofs.OldContents.{solved-accepted}
+use Rattle.rules.proofs.Parts.{put, from-start}
+use Rattle.solver.specs.Solve.{Taken, LeftAs, Lent, AtZero, RanIn}
+
+solved-refused : (p : Problem) (work cone : List Float) (e : Ending) → refusal p (length work) (length cone) ≡ Refused e → solved p work cone ≡ turnedAway e work cone
+unfolding solved
+solved-refused p work cone e h = rw h
+
+pub turned-away : (p : Problem) (work cone : List Float) (e : Ending) (r : Refusal) → r ≡ refusal p (length work) (length cone) → r ≡ Refused e → SolveOutcome p work cone (record { ending = e; steps = 0; rotations = 0 }) work cone
+turned-away p work cone e r h is =
+    let s = solved-refused p work cone e (sym (rw is at h)) in
+    record { answered = rw s; work-left = rw s; cone-left = rw s }
+
+matrix-rows : (s : Storage) (m n : ℕ) → nRow (matrixOf s m n) ≡ m
+matrix-rows Dense m n = refl
+matrix-rows Packed m n = refl
+
+matrix-cols : (s : Storage) (m n : ℕ) → (isPacked s ≡ true → m ≡ n) → nCol (matrixOf s m n) ≡ n
+matrix-cols Dense m n h = refl
+matrix-cols Packed m n h = h refl
+
+module _ (m n : ℕ) (storage : Storage) (c a b : List Float) (words : List ℕ) (par : SolverParam) (work cone : List Float) where
+  read-is : readProblem (problemOf m n storage c a b words par) ≡ problemOf m n storage c a b words (asRead par)
+  unfolding readProblem
+  read-is = refl
+
+  steps-read : asRead par .«max_iter» ≡ par .«max_iter»
+  unfolding asRead
+  steps-read = refl
+
+  sweeps-read : sweepsFit (asRead par) ≡ sweepsFit par
+  unfolding asRead
+  sweeps-read = refl
+
+  fit-sweeps : AllFits (problemOf m n storage c a b words par) (length work) (length cone) → sweepsFit par ≡ true
+  fit-sweeps f = rw (le-leb _ _ (f .some-sweep), le-leb _ _ (f .sweeps-within))
+
+  pub taken : (r : Refusal) → r ≡ refusal (problemOf m n storage c a b words par) (length work) (length cone) → r ≡ Accepted → (read : SolverParam) → read ≡ asRead par → Taken (problemOf m n storage c a b words read) work cone
+  taken r h is read e =
+      let f = accepted-fits (problemOf m n storage c a b words par) (length work) (length cone) (sym (rw is at h)) in
+      rw e
+      (record {
+        ready = record {
+          operators = record {
+            m-within = f .m-within;
+            n-within = f .n-within;
+            matrix = record {
+              rows = matrix-rows storage m n;
+              cols = matrix-cols storage m n (f .square);
+              stored = record { rows = rw (matrix-rows storage m n) (f .m-within); cols = rw (matrix-cols storage m n (f .square)) (f .n-within); all = f .fitting .a };
+            };
+            c-length = f .fitting .c;
+            b-length = f .fitting .b;
+          };
+          readable = f .no-bad-word;
+          places = f .fitting .blocks;
+          sweeps = sweeps-read ∙ fit-sweeps f;
+        };
+        steps = rw steps-read (f .steps-within);
+        work-long = f .long-work;
+        cone-long = f .long-cone;
+      })
+
+  pub went-through : (r : Refusal) → r ≡ refusal (problemOf m n storage c a b words par) (length work) (length cone) → r ≡ Accepted → (read : SolverParam) → read ≡ asRead par → (answer : Answer) (work' cone' : List Float) → LeftAs (problemOf m n storage c a b words read) work cone answer work' cone' → SolveOutcome (problemOf m n storage c a b words par) work cone answer work' cone'
+  went-through r h is read e answer work' cone' l =
+      let s = solved-accepted (problemOf m n storage c a b words par) work cone (sym (rw is at h)) in
+      let k = rw e at l in
+      record { answered = rw (s, read-is) (k .answered); work-left = rw (s, read-is) (k .work-left); cone-left = rw (s, read-is) (k .cone-left) }
+
+-- ---- an accepted run with vectors of its own
+
+part-is : (needed : ℕ) (cone : List Float) → needed ≤ length cone → length (take (needed - 0) (drop 0 cone)) ≡ needed
+part-is needed cone h = rw (from-start needed) (length-take-le needed cone h)
+
+pub lent : (p : Problem) (work cone : List Float) → Taken p work cone → (needed : ℕ) → needed ≡ coneWork (blocks p) → Lent p work (take (needed - 0) (drop 0 cone))
+lent p work cone t needed e =
+    let h : needed ≤ length cone = rw e (t .cone-long) in
+    record { ready = t .ready; steps = t .steps; work-long = t .work-long; cone-long = part-is needed cone h ∙ e }
+
+pub left-as : (p : Problem) (work cone : List Float) (needed : ℕ) → needed ≡ coneWork (blocks p) → (answer : Answer) (work' cone' : List Float) → RanIn p work answer work' cone' → LeftAs p work cone answer work' (put 0 needed cone cone')
+unfolding leftBy
+left-as p work cone needed e answer work' cone' r =
+    record { answered = r .answered; work-left = r .work-is; cone-left = rw (from-start needed, e, r .cone-is) }
+
+zeros-part : (k l : ℕ) → k ≤ l → take (k - 0) (drop 0 (replicate l +0)) ≡ zeros k
+zeros-part k l h = rw (from-start k) (go k l h)
+  where
+    go : (i j : ℕ) → i ≤ j → take i (replicate j +0) ≡ replicate i +0
+    go zero j h = refl
+    go (suc i) zero h = absurd (omega arith)
+    go (suc i) (suc j) h = ap (λ v. +0 ∷ v) (go i j (omega arith))
+
+pub at-zero : (shape : Shape) → shape .rows .0 ≤ limit → shape .cols .0 ≤ limit → (longX longY : ℕ) → longX ≡ 3 * limit + 1 → longY ≡ 2 * limit + 1
+    → (let x = take (lengthX (shape .rows .0) (shape .cols .0) - 0) (drop 0 (replicate longX +0)) in let y = take (lengthY (shape .rows .0) (shape .cols .0) - 0) (drop 0 (replicate longY +0)) in AtZero shape x y x y x x)
+at-zero shape hm hn longX longY x y =
+    let fx = zeros-part (lengthX (shape .rows .0) (shape .cols .0)) longX (omega arith) in
+    let fy = zeros-part (lengthY (shape .rows .0) (shape .cols .0)) longY (omega arith) in
+    record { x-zero = fx; y-zero = fy; tau-zero = fx; sigma-zero = fy; rx-zero = fx; tx-zero = fx }

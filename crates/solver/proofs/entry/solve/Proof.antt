@@ -1,0 +1,42 @@
+-- `solver::entry::solve` meets its contract: turned away by the check, or run as the problem is read.
+use borrow.Author.Needs.{needs}
+use Rattle.rules.specs.Problem.{problemOf}
+use Rattle.solver.proofs.Outcomes.{taken, turned-away, went-through}
+use Rattle.solver.proofs.entry.solve.Statement.{statement}
+use Rattle.solver.proofs.entry.solve.Tie as tie
+
+check-requires : tie.Need-check-requires
+check-requires c κs = search needs
+
+enum-known-found : tie.Need-enum-known-found
+enum-known-found c = search needs
+
+enum-told : tie.Need-enum-told
+enum-told c = search needs
+
+read-eps-requires : tie.Need-read-eps-requires
+read-eps-requires c κs = search needs
+
+accepted-requires : tie.Need-accepted-requires
+accepted-requires c κs =
+    let k = c @args in
+    taken (k .rows .0) (k .cols .0) (k .storage) (k .c .now) (k .a .now) (k .b .now) (k .words .now) (k .par) (k .work .now) (k .cone-work .now) _ (c @check .ensures) (c @enum-told .given .1) _ (c @read-eps .ensures)
+
+returns : tie.Need-returns
+returns c =
+    let k = c @args in
+    turned-away (problemOf (k .rows .0) (k .cols .0) (k .storage) (k .c .now) (k .a .now) (k .b .now) (k .words .now) (k .par)) (k .work .now) (k .cone-work .now) _ _ (c @check .ensures) (c @found .given .1)
+
+same-length : tie.Need-same-length
+same-length c = search needs
+
+same-length-2 : tie.Need-same-length-2
+same-length-2 c = search needs
+
+returns-2 : tie.Need-returns-2
+returns-2 c =
+    let k = c @args in
+    went-through (k .rows .0) (k .cols .0) (k .storage) (k .c .now) (k .a .now) (k .b .now) (k .words .now) (k .par) (k .work .now) (k .cone-work .now) _ (c @check .ensures) (c @enum-told .given .1) _ (c @read-eps .ensures) _ _ _ (c @accepted .ensures)
+
+pub solve-spec : {M : Type 1} → statement M
+solve-spec = tie.close (tie.spec check-requires enum-known-found enum-told read-eps-requires accepted-requires returns same-length same-length-2 returns-2)

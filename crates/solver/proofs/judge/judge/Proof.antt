@@ -1,0 +1,34 @@
+-- `solver::judge::judge` meets its contract.
+use native.Mathlib.Omega.{arith}
+use Prim.Native.Nat.{ℕ}
+use mathlib.Core.Path.{_≡_, sym, ap, _∙_}
+use borrow.Author.Needs.{needs}
+use Rattle.rules.specs.declared.Criteria.{Criteria}
+use Rattle.rules.specs.Product.{none}
+use Rattle.rules.specs.Run.{verdict}
+use Rattle.criteria.specs.declared.Judged.the-variants.{Of, No}
+use Rattle.criteria.proofs.Judging.{judge-fits, judge-ruled}
+use Rattle.solver.proofs.judge.judge.Statement.{statement}
+use Rattle.solver.proofs.judge.judge.Tie as tie
+
+same : {found ruled : Criteria} → Of found ≡ Of ruled → found ≡ ruled
+same e = cc
+
+never : {ruled : Criteria} {A : Type 0} → No ≡ Of ruled → A
+never e = let z : _≡_ {A = ℕ} 0 1 = cc in absurd (omega arith)
+
+returns : tie.Need-returns
+returns c =
+    let s = c @START in
+    let k = s .args in
+    let o = judge-ruled (c @judge .ensures) (judge-fits (s .pre .0) (s .pre .1 .0) (s .pre .1 .1)) in
+    (c @says .ensures ∙ ap (verdict (k .par) (k .k) none) (same (sym (c @j .given .1) ∙ o .0)), o .1)
+
+returns-2 : tie.Need-returns-2
+returns-2 c =
+    let s = c @START in
+    let o = judge-ruled (c @judge .ensures) (judge-fits (s .pre .0) (s .pre .1 .0) (s .pre .1 .1)) in
+    never (sym (c @enum-told .given .1) ∙ o .0)
+
+pub judge-spec : {M : Type 1} → statement M
+judge-spec = tie.close (tie.spec returns)

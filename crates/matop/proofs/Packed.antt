@@ -15,7 +15,7 @@ use Rattle.rules.specs.Helpers.{magnitude}
 use Rattle.rules.specs.Arithmetic.{_+ᶠ_, +0, at, sumTo, each, eachTo}
 use Rattle.rules.specs.Matrices.{triangle, entry, colSum, packedSum, absaddedCols}
 use Rattle.rules.proofs.Arithmetic.{sum-none, sum-turn, sum-same, eachTo-length, eachTo-later, eachTo-at, each-length, each-at, each-is, each-same}
-use Rattle.rules.proofs.Matrices.{packed-entry}
+use Rattle.rules.proofs.Columns.{inPacked-at}
 use Rattle.matop.specs.Columns.{columnAdded}
 
 -- ---- one column
@@ -59,7 +59,7 @@ module _ (rows : Rows) (mat : List Float) where
   row-goes-on c i v h =
       let more : c + 1 - suc i ≡ c - suc i + 1 = omega arith in
       let last : suc i + (c - suc i) ≡ c = omega arith in
-      rw (more, ← packed-entry rows mat i c (omega arith)) (ap (λ (k : ℕ). start +ᶠ magnitude (entry (SymPack rows) mat i k)) (sym last) ∙ sum-turn (colSum (entry (SymPack rows) mat) (suc i) i +ᶠ v) (λ k. magnitude (entry (SymPack rows) mat i (suc i + k))) (c - suc i))
+      rw (more, ← inPacked-at (rows .0) mat i c (omega arith)) (ap (λ (k : ℕ). start +ᶠ magnitude (entry (SymPack rows) mat i k)) (sym last) ∙ sum-turn (colSum (entry (SymPack rows) mat) (suc i) i +ᶠ v) (λ k. magnitude (entry (SymPack rows) mat i (suc i + k))) (c - suc i))
     where
       start : Float
       start = packedSum (entry (SymPack rows) mat) c i v
@@ -67,7 +67,7 @@ module _ (rows : Rows) (mat : List Float) where
   row-begins : (c : ℕ) (v : Float) → sumTo (suc c) (λ r. magnitude (at mat (triangle c + r))) +ᶠ v ≡ packedSum (entry (SymPack rows) mat) (c + 1) c v
   row-begins c v =
       let none : c + 1 - suc c ≡ 0 = omega arith in
-      rw none (ap (λ (s : Float). s +ᶠ v) (sum-same +0 (λ r. magnitude (at mat (triangle c + r))) (λ r. magnitude (entry (SymPack rows) mat r c)) (suc c) (λ r h. ap magnitude (sym (packed-entry rows mat r c (omega arith))))) ∙ sym (sum-none _ _))
+      rw none (ap (λ (s : Float). s +ᶠ v) (sum-same +0 (λ r. magnitude (at mat (triangle c + r))) (λ r. magnitude (entry (SymPack rows) mat r c)) (suc c) (λ r h. ap magnitude (sym (inPacked-at (rows .0) mat r c (omega arith))))) ∙ sym (sum-none _ _))
 
   pub columns-more : {c : ℕ} {xs ys zs : List Float} → Columns rows mat c xs ys → zs ≡ each (columnAdded mat c) ys → Columns rows mat (c + 1) xs zs
   unfolding packedTo columnAdded

@@ -1,28 +1,24 @@
 -- What a private function of this crate does, where the rules speak only of a whole matrix.
 use Prim.Native.Nat.{ℕ, suc, _+_}
-use mathlib.Core.Bool.{Bool, cond, _&&_}
+use mathlib.Core.Bool.{Bool, cond}
 use mathlib.Core.List.{List}
 use lib.Dec.{ltb, eqb}
 use lib.Ieee.{Float, add}
-use lib.ListN.{length}
 use Rattle.rules.specs.declared.MatType.{MatType}
 use Rattle.rules.specs.Helpers.{magnitude}
 use Rattle.rules.specs.Arithmetic.{_+ᶠ_, at, sumTo, sumFrom, each}
 use Rattle.rules.specs.Vectors.{scaled}
-use Rattle.rules.specs.Matrices.{triangle, entries, height, width, isEmpty, transformed, colSum, storedFits}
+use Rattle.rules.specs.Matrices.{triangle, entries, height, isEmpty, transformed, colSum}
 
--- a matrix, or the matrix turned over, as an operator
+-- a matrix, or the matrix transposed, as an operator
 unfoldable pub operated : Bool → MatType → Float → List Float → List Float → Float → List Float → List Float
 unfolding scaled transformed
 operated transpose t alpha mat x beta y = cond (isEmpty t) (scaled beta y) (transformed alpha (entries transpose t mat) x beta y)
 
--- the sums of the columns, or of the columns of the matrix turned over, added to y
+-- the sums of the columns, or of the columns of the matrix transposed, added to y
 unfoldable pub absadded : Bool → MatType → List Float → List Float → List Float
 unfolding each sumFrom magnitude add
 absadded transpose t mat y = each (λ k v. colSum (entries transpose t mat) (height transpose t) k +ᶠ v) y
-
-abbrev pub absaddFits : Bool → MatType → List Float → List Float → Bool
-absaddFits transpose t mat y = storedFits t mat && eqb (length y) (width transpose t)
 
 -- what column c of a packed triangle adds to what place i holds: its own place gets the whole column, and each place above it one number
 unfoldable pub columnAdded : List Float → ℕ → ℕ → Float → Float

@@ -5,11 +5,12 @@ use rules::Rows;
 ghost use Prim.Native.Nat.{_+_, _≤_, _<_};
 ghost use mathlib.Core.Path.{_≡_};
 ghost use lib.ListN.{length};
+ghost use Rattle.rules.specs.Limits.{limit};
 ghost use Rattle.rules.specs.Outcome.{Outcome};
 ghost use Rattle.rules.specs.Arithmetic.{each};
-ghost use Rattle.rules.specs.Matrices.{triangle, entries, width, height, isEmpty, colSum, Stored, transformFits, opFits, transOpFits, opped, transOpped, colsFit, rowsFit, absaddedCols, absaddedRows};
+ghost use Rattle.rules.specs.Matrices.{triangle, entries, width, height, isEmpty, colSum, Stored, transformFits, opFits, transOpFits, opped, transOpped, lineFits, colsFit, rowsFit, absaddedCols, absaddedRows};
 ghost use Rattle.rules.specs.declared.MatType.the-variants.{General, SymPack};
-ghost use Rattle.matop.specs.Columns.{operated, absadded, absaddFits, columnAdded};
+ghost use Rattle.matop.specs.Columns.{operated, absadded, columnAdded};
 
 // y becomes alpha * matrix * x + beta * y.
 pub fn op(t: MatType, alpha: f64, mat: &[f64], x: &[f64], beta: f64, y: &mut [f64]) -> bool
@@ -18,7 +19,7 @@ pub fn op(t: MatType, alpha: f64, mat: &[f64], x: &[f64], beta: f64, y: &mut [f6
     operate(false, t, alpha, mat, x, beta, y)
 }
 
-// y becomes alpha * matrix turned over * x + beta * y.
+// y becomes alpha * matrix transposed * x + beta * y.
 pub fn trans_op(t: MatType, alpha: f64, mat: &[f64], x: &[f64], beta: f64, y: &mut [f64]) -> bool
     ensures { λ r. ⌜ Outcome (transOpFits t (now (mat .entry)) (now (x .entry)) (now (y .entry))) (transOpped t alpha (now (mat .entry)) (now (x .entry)) beta (now (y .entry))) (now (y .entry)) r (now (y .exit)) ⌝ }
 {
@@ -89,9 +90,9 @@ pub fn absadd_rows(t: MatType, mat: &[f64], y: &mut [f64]) -> bool
     }
 }
 
-// The sums of the columns, or of the columns of the matrix turned over.
+// The sums of the columns, or of the columns of the matrix transposed.
 fn absadd_dense(transpose: bool, rows: Rows, cols: Cols, mat: &[f64], y: &mut [f64]) -> bool
-    ensures { λ r. ⌜ Outcome (absaddFits transpose (General rows cols) (now (mat .entry)) (now (y .entry))) (absadded transpose (General rows cols) (now (mat .entry)) (now (y .entry))) (now (y .entry)) r (now (y .exit)) ⌝ }
+    ensures { λ r. ⌜ Outcome (lineFits transpose (General rows cols) (now (mat .entry)) (now (y .entry))) (absadded transpose (General rows cols) (now (mat .entry)) (now (y .entry))) (now (y .entry)) r (now (y .exit)) ⌝ }
 {
     let t = MatType::General(rows, cols);
     if !matrix::stored_fits(t, mat) {
@@ -147,9 +148,10 @@ fn absadd_packed(rows: Rows, mat: &[f64], y: &mut [f64]) -> bool
 fn add_column(mat: &[f64], c: usize, y: &mut [f64])
     requires { ⌜ triangle c + (c + 1) ≤ length (now mat) ⌝ }
     requires { ⌜ c < length (now y) ⌝ }
+    requires { ⌜ c ≤ limit ⌝ }
     ensures { λ _. ⌜ now (y .exit) ≡ each (columnAdded (now (mat .entry)) c) (now (y .entry)) ⌝ }
 {
-    let start = c * (c + 1) / 2;
+    let start = matrix::triangle(c);
     let end = start + c + 1;
     y[c] = linalg::abssum(&mat[start..end], 1) + y[c];
     for i in 0..c {

@@ -12,6 +12,21 @@ ghost use Rattle.rules.specs.Outcome.{Outcome};
 ghost use Rattle.rules.specs.Matrices.{nRow, nCol, storedLength, storedFits, Stored, transformFits, entry, entries, product, transformed};
 ghost use Rattle.rules.specs.Matrices as rules;
 ghost use Rattle.rules.specs.declared.MatType.the-variants.{General, SymPack};
+ghost use Rattle.matrix.specs.Counted.{countedTriangle};
+
+// The largest order whose triangle 64 bits can count.
+const LARGEST_ORDER: usize = 4294967295;
+
+// How many numbers a packed triangle of order n has, and how many stand before its column n; of an order above the largest, the largest
+// number there is.
+pub fn triangle(n: usize) -> usize
+    ensures { λ r. ⌜ r ≡ countedTriangle n ⌝ }
+{
+    if n > LARGEST_ORDER {
+        return 18446744073709551615;
+    }
+    n * (n + 1) / 2
+}
 
 // How many rows.
 fn n_row(t: MatType) -> usize
@@ -33,14 +48,14 @@ fn n_col(t: MatType) -> usize
     }
 }
 
-// How many rows, or rows of the matrix turned over.
+// How many rows, or rows of the matrix transposed.
 pub fn height(transpose: bool, t: MatType) -> usize
     ensures { λ r. ⌜ r ≡ rules.height transpose t ⌝ }
 {
     if transpose { n_col(t) } else { n_row(t) }
 }
 
-// How many columns, or columns of the matrix turned over.
+// How many columns, or columns of the matrix transposed.
 pub fn width(transpose: bool, t: MatType) -> usize
     ensures { λ r. ⌜ r ≡ rules.width transpose t ⌝ }
 {
@@ -55,7 +70,7 @@ fn stored_length(t: MatType) -> usize
 {
     match t {
         MatType::General(rows, cols) => rows.0 * cols.0,
-        MatType::SymPack(rows) => rows.0 * (rows.0 + 1) / 2,
+        MatType::SymPack(rows) => triangle(rows.0),
     }
 }
 
@@ -84,15 +99,15 @@ fn place(t: MatType, r: usize, c: usize) -> usize
         MatType::General(rows, _) => c * rows.0 + r,
         MatType::SymPack(_) => {
             if r < c {
-                c * (c + 1) / 2 + r
+                triangle(c) + r
             } else {
-                r * (r + 1) / 2 + c
+                triangle(r) + c
             }
         }
     }
 }
 
-// The entry of row r and column c of the matrix, or of the matrix turned over.
+// The entry of row r and column c of the matrix, or of the matrix transposed.
 fn entry_at(transpose: bool, t: MatType, mat: &[f64], r: usize, c: usize) -> f64
     requires { ⌜ Stored t (now mat) ⌝ }
     requires { ⌜ r < rules.height transpose t ⌝ }
@@ -154,7 +169,7 @@ fn transform(
     true
 }
 
-// The product with a dense matrix, or with the matrix turned over.
+// The product with a dense matrix, or with the matrix transposed.
 pub fn transform_ge(
     transpose: bool,
     rows: Rows,

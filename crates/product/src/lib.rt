@@ -1,7 +1,6 @@
 // A list of blocks: each has its part of the lent slice, in list order.
-use cone::is_within;
 use cone::proj;
-use cone::sweeps_fit;
+use jacobi::sweeps_fit;
 use rules::Cone;
 use rules::MOST_PLACES;
 use rules::Product;
@@ -10,6 +9,7 @@ use rules::SolverParam;
 use rules::Word;
 use words::cone_work_len;
 use words::is_bad_cone;
+use words::is_within;
 use words::places_of;
 use words::read_word;
 ghost use mathlib.Core.Path.{_≡_};

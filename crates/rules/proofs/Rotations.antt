@@ -26,16 +26,16 @@ use Rattle.rules.proofs.Run.{ends-first}
 
 -- ---- a block
 
-half-pairs : (limit pairs : ℕ) → 2 * (limit * (pairs / 2)) ≤ limit * pairs
-half-pairs limit pairs =
+half-pairs : (most pairs : ℕ) → 2 * (most * (pairs / 2)) ≤ most * pairs
+half-pairs most pairs =
     let h : pairs / 2 + pairs / 2 ≤ pairs = omega arith in
-    omega (arith, mul-le-mul-left limit h, mul-add limit (pairs / 2) (pairs / 2))
+    omega (arith, mul-le-mul-left most h, mul-add most (pairs / 2) (pairs / 2))
 
-psd-rotations : (par : SolverParam) (d : ℕ) (x work : List Float) → projPSD par d x work .rotations ≡ swept par d x .turning .rotations
+psd-rotations : (par : SolverParam) (d : ℕ) (x work : List Float) → projPSD par d x work .rotations ≡ swept par d x .reached .rotations
 unfolding projPSD
 psd-rotations par d x work = go (swept par d x .succeeded) refl
   where
-    go : (b : Bool) → swept par d x .succeeded ≡ b → projPSD par d x work .rotations ≡ swept par d x .turning .rotations
+    go : (b : Bool) → swept par d x .succeeded ≡ b → projPSD par d x work .rotations ≡ swept par d x .reached .rotations
     go true e = rw e
     go false e = rw e
 

@@ -1,5 +1,6 @@
 -- `matop::absadd_packed` meets its contract: every column is stored.
 use Prim.Native.Nat.{_-_, _≤_}
+use native.Mathlib.Omega.{arith}
 use mathlib.Core.Path.{_≡_, sym, _∙_}
 use lib.ListN.{length}
 use borrow.Author.Needs.{needs}
@@ -33,7 +34,7 @@ loop-holds c = (columns-none _ _ _, search needs, stored-if-fits (sym (c .before
 
 add-column-requires : tie.Need-add-column-requires Inv-loop μ-loop
 add-column-requires c κs = let i = c .before .before .loop .inv in
-    (rw (i .2 .all) (triangle-inside _ _ (search needs)), search needs)
+    (rw (i .2 .all) (triangle-inside _ _ (search needs)), (search needs, omega (arith, i .2 .rows, i .1)))
 
 add-c : tie.Need-add-c Inv-loop μ-loop
 add-c c = search needs

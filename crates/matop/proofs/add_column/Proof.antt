@@ -1,5 +1,6 @@
 -- `matop::add_column` meets its contract.
 use Prim.Native.Nat.{_+_, _-_, _≤_, _<_, suc}
+use native.Mathlib.Omega.{arith}
 use mathlib.Core.Path.{_≡_, _∙_}
 use lib.ListN.{length, length-set}
 use borrow.Author.Needs.{needs}
@@ -8,39 +9,43 @@ use Rattle.rules.specs.Arithmetic.{_+ᶠ_, at}
 use Rattle.rules.specs.Matrices.{triangle}
 use Rattle.rules.proofs.Arithmetic.{Reached, reached-none, reached-more}
 use Rattle.rules.proofs.Vectors.{abssum-of-part}
+use Rattle.matrix.proofs.Counted.{counted-small}
 use Rattle.matop.proofs.Packed.{column-added}
 use Rattle.matop.proofs.add_column.Statement.{statement}
 use Rattle.matop.proofs.add_column.Tie as tie
 
 abbrev Inv-loop : tie.InvT-loop
-Inv-loop mat c y₀ start end i₀ y i = Reached (λ k v. v +ᶠ magnitude (at mat (start + k))) i y₀ y × (i ≤ c) × (c < length y₀) × (start + (c + 1) ≤ length mat)
+Inv-loop mat c y₀ start end i₀ y i = Reached (λ k v. v +ᶠ magnitude (at mat (start + k))) i y₀ y × (i ≤ c) × (c < length y₀) × (start + (c + 1) ≤ length mat) × (start ≡ triangle c)
 
 abbrev μ-loop : tie.MeasureT-loop
 μ-loop mat c y₀ start end i₀ y i = c - i
 
-add-start : tie.Need-add-start Inv-loop μ-loop
-add-start c = search needs
+-- where the column starts
+known : (c : tie.After-triangle Inv-loop μ-loop) → (c .triangle .result ≡ triangle (c .before .before .before .args .c)) × (c .triangle .result + (c .before .before .before .args .c + 1) ≤ length (c .before .before .before .args .mat .now))
+known c =
+    let s = counted-small (c .triangle .ensures) (c .before .before .before .pre .1 .1) in
+    (s .0, omega (arith, s .0, c .before .before .before .pre .0))
 
-mul-start : tie.Need-mul-start Inv-loop μ-loop
-mul-start c = search needs
+triangle-requires : tie.Need-triangle-requires Inv-loop μ-loop
+triangle-requires c κs = search needs
 
 add-end : tie.Need-add-end Inv-loop μ-loop
-add-end c = search needs
+add-end c = omega (arith, known c)
 
 add-end-2 : tie.Need-add-end-2 Inv-loop μ-loop
-add-end-2 c = search needs
+add-end-2 c = omega (arith, known c)
 
 mul-abssum : tie.Need-mul-abssum Inv-loop μ-loop
-mul-abssum c = search needs
+mul-abssum c = omega (arith, known c)
 
 sub-abssum : tie.Need-sub-abssum Inv-loop μ-loop
-sub-abssum c = search needs
+sub-abssum c = omega (arith, known c)
 
 part-abssum-start : tie.Need-part-abssum-start Inv-loop μ-loop
-part-abssum-start c = search needs
+part-abssum-start c = omega (arith, known c)
 
 part-abssum-end : tie.Need-part-abssum-end Inv-loop μ-loop
-part-abssum-end c = search needs
+part-abssum-end c = omega (arith, known c)
 
 abssum-requires : tie.Need-abssum-requires Inv-loop μ-loop
 abssum-requires c κs = search needs
@@ -58,7 +63,7 @@ slice-write-y : tie.Need-slice-write-y Inv-loop μ-loop
 slice-write-y c = search needs
 
 loop-holds : tie.Need-loop-holds Inv-loop μ-loop
-loop-holds c = (reached-none _ _, search needs, simp length-set (search needs), search needs)
+loop-holds c = (reached-none _ _, search needs, simp length-set (search needs), known (c .before .before .before) .1, known (c .before .before .before) .0)
 
 mul-y-3 : tie.Need-mul-y-3 Inv-loop μ-loop
 mul-y-3 c = search needs
@@ -91,16 +96,17 @@ loop-less : tie.Need-loop-less Inv-loop μ-loop
 loop-less c = search needs
 
 loop-again : tie.Need-loop-again Inv-loop μ-loop
-loop-again c = (rw (c .magnitude .ensures) (reached-more (c .before .before .before .before .loop .inv .0) (search needs)), search needs, search needs, search needs)
+loop-again c = (rw (c .magnitude .ensures) (reached-more (c .before .before .before .before .loop .inv .0) (search needs)), search needs, search needs, search needs, search needs)
 
 same-length : tie.Need-same-length Inv-loop μ-loop
 same-length c = c .before .loop .inv .0 .same ∙ simp length-set
 
 returns : tie.Need-returns Inv-loop μ-loop
-returns c = let b = c .before .before .before .before .before .before .before in
+returns c = let b = c .before .before .before .before .before .before .before .before in
     let i = c .before .loop .inv in
+    let k = known (c .before .before .before .before .before) in
     let all : c .before .loop .i ≡ b .args .c = search needs in
-    column-added _ _ _ _ _ (search needs) (c .before .before .before .abssum .ensures ∙ abssum-of-part (b .args .mat .now) (triangle (b .args .c)) (triangle (b .args .c) + b .args .c + 1) (suc (b .args .c)) (search needs) (search needs)) (rw all at (i .0 .is))
+    column-added _ _ _ _ _ (search needs) (c .before .before .before .abssum .ensures ∙ rw (k .0) (abssum-of-part (b .args .mat .now) (triangle (b .args .c)) (triangle (b .args .c) + b .args .c + 1) (suc (b .args .c)) (search needs) (search needs))) (rw (k .0, all) at (i .0 .is))
 
 pub add-column-spec : {M : Type 1} → statement M
 add-column-spec =
@@ -108,8 +114,7 @@ add-column-spec =
     (tie.spec
     Inv-loop
     μ-loop
-    add-start
-    mul-start
+    triangle-requires
     add-end
     add-end-2
     mul-abssum

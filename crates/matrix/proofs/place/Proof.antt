@@ -1,10 +1,10 @@
 -- `matrix::place` meets its contract: within the limits nothing overflows.
-use Prim.Native.Nat.{_+_}
 use native.Mathlib.Omega.{arith}
 use borrow.Author.Needs.{needs}
 use borrow.Author.Tests.{lt-ltb, le-ltb}
 use Rattle.rules.specs.Matrices.{place}
 use Rattle.rules.proofs.Matrices.{product-small}
+use Rattle.matrix.proofs.Counted.{counted-small}
 use Rattle.matrix.proofs.place.Statement.{statement}
 use Rattle.matrix.proofs.place.Tie as tie
 
@@ -24,23 +24,17 @@ add-result c = let g = c .before .before .t .given in
 enum-told : tie.Need-enum-told
 enum-told c = search needs
 
-add-result-2 : tie.Need-add-result-2
-add-result-2 c = search needs
+triangle-requires : tie.Need-triangle-requires
+triangle-requires c κs = search needs
 
-mul-result-2 : tie.Need-mul-result-2
-mul-result-2 c = omega (arith, product-small (c .before .before .before .args .c) (c .before .before .before .args .c + 1) (search needs) (search needs))
+add-result-2 : tie.Need-add-result-2
+add-result-2 c = omega (arith, counted-small (c .triangle .ensures) (search needs))
+
+triangle-requires-2 : tie.Need-triangle-requires-2
+triangle-requires-2 c κs = search needs
 
 add-result-3 : tie.Need-add-result-3
-add-result-3 c = omega (arith, product-small (c .before .before .before .args .c) (c .before .before .before .args .c + 1) (search needs) (search needs))
-
-add-result-4 : tie.Need-add-result-4
-add-result-4 c = search needs
-
-mul-result-3 : tie.Need-mul-result-3
-mul-result-3 c = omega (arith, product-small (c .before .before .before .args .r) (c .before .before .before .args .r + 1) (search needs) (search needs))
-
-add-result-5 : tie.Need-add-result-5
-add-result-5 c = omega (arith, product-small (c .before .before .before .args .r) (c .before .before .before .args .r + 1) (search needs) (search needs))
+add-result-3 c = omega (arith, counted-small (c .triangle2 .ensures) (search needs))
 
 returns : tie.Need-returns
 unfolding place
@@ -48,11 +42,11 @@ returns c = rw (c .before .before .t .given .1)
 
 returns-2 : tie.Need-returns-2
 unfolding place
-returns-2 c = rw (c .before .enum-told .given .1, lt-ltb _ _ (c .if1 .taken))
+returns-2 c = rw (c .before .before .enum-told .given .1, lt-ltb _ _ (c .before .if1 .taken), counted-small (c .triangle .ensures) (search needs) .0)
 
 returns-3 : tie.Need-returns-3
 unfolding place
-returns-3 c = rw (c .before .enum-told .given .1, le-ltb _ _ (c .if1 .left))
+returns-3 c = rw (c .before .before .enum-told .given .1, le-ltb _ _ (c .before .if1 .left), counted-small (c .triangle2 .ensures) (search needs) .0)
 
 pub place-spec : {M : Type 1} → statement M
 place-spec =
@@ -62,12 +56,10 @@ place-spec =
     mul-result
     add-result
     enum-told
+    triangle-requires
     add-result-2
-    mul-result-2
+    triangle-requires-2
     add-result-3
-    add-result-4
-    mul-result-3
-    add-result-5
     returns
     returns-2
     returns-3)

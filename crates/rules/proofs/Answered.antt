@@ -34,7 +34,7 @@ use Rattle.rules.proofs.Run.{ends-first, goes-on-exactly}
 use Rattle.rules.proofs.Converged.{converged-exactly}
 use Rattle.rules.proofs.Rotations.{run-bounded}
 use Rattle.rules.proofs.Refusals.{accepted-if-none-holds, verdict-cases, run-unnumbered}
-use Rattle.rules.proofs.Accepted.{accepted-fits, read-fits}
+use Rattle.rules.proofs.Accepted.{accepted-as-read}
 use Rattle.rules.proofs.OldContents.{requiredWork, requiredCone, requiredWork-length, requiredCone-length, solved-accepted}
 
 -- ---- a buffer whose first places are x and the next ones y
@@ -267,5 +267,5 @@ pub accepted-runs-as-demanded : (p : Problem) (work cone : List Float) (answer :
 accepted-runs-as-demanded p work cone answer work' cone' o none-holds =
     let q = readProblem p in
     let e = accepted-if-none-holds p (length work) (length cone) none-holds in
-    let s : Sized q (run q .state) = run-sized q (read-fits p (accepted-fits p (length work) (length cone) e .fitting)) in
+    let s : Sized q (run q .state) = run-sized q (accepted-as-read p (length work) (length cone) e .fitting) in
     rw (o .answered, o .work-left, o .cone-left, solved-accepted p work cone e) (answered q work cone s)

@@ -23,7 +23,7 @@ use Rattle.rules.specs.Refusals.{refusal, readProblem, turnedAway, solve
 use Rattle.rules.specs.Demands.{workNeeded, coneNeeded, OldContentsChangeNothing, PlacesBeyondKept}
 use Rattle.rules.proofs.KernelLengths.{scaled-length}
 use Rattle.rules.proofs.Lengths.{Sized, xX-length, xY-length, run-sized}
-use Rattle.rules.proofs.Accepted.{accepted-fits, read-fits}
+use Rattle.rules.proofs.Accepted.{accepted-as-read}
 
 -- ---- the required parts have the required lengths
 
@@ -87,7 +87,7 @@ solved-accepted p work cone e = rw e
 pub old-contents-change-nothing : (p : Problem) (work cone work' cone' : List Float) → refusal p (length work) (length cone) ≡ Accepted → refusal p (length work') (length cone') ≡ Accepted → OldContentsChangeNothing p work cone work' cone'
 old-contents-change-nothing p work cone work' cone' e e' =
     let q = readProblem p in
-    let s : Sized q (run q .state) = run-sized q (read-fits p (accepted-fits p (length work) (length cone) e .fitting)) in
+    let s : Sized q (run q .state) = run-sized q (accepted-as-read p (length work) (length cone) e .fitting) in
     let one = solved-accepted p work cone e in
     let other = solved-accepted p work' cone' e' in
     record {
@@ -124,12 +124,11 @@ unfolding solved
 solved-refused p work cone x e = rw e
 
 solved-kept : (p : Problem) (work cone : List Float) (r : Refusal) → refusal p (length work) (length cone) ≡ r → Kept (workNeeded p) (coneNeeded p) work cone (solved p work cone)
-unfolding readProblem
 solved-kept p work cone Accepted e =
     let q = readProblem p in
-    let fits = accepted-fits p (length work) (length cone) e in
+    let fits = accepted-as-read p (length work) (length cone) e in
     rw (solved-accepted p work cone e)
-    (left-kept q work cone (run q) (run-sized q (read-fits p (fits .fitting))) (fits .long-work) (fits .long-cone))
+    (left-kept q work cone (run q) (run-sized q (fits .fitting)) (fits .long-work) (fits .long-cone))
 solved-kept p work cone (Refused x) e =
     rw (solved-refused p work cone x e) (record { work-length = refl; cone-length = refl; work-beyond = refl; cone-beyond = refl })
 

@@ -41,11 +41,13 @@ allFinite [] = true
 allFinite (x ∷ xs) = isFinite x && allFinite xs
 
 -- 1: "an eps is not finite, eps_zero < 0, max_iter or sweep limit outside its range"
+abbrev pub badTolerance : SolverParam → Bool
+badTolerance par =
+    not (isFinite (par .«eps_acc»)) || not (isFinite (par .«eps_inf»)) || not (isFinite (par .«eps_zero»)) || lt (par .«eps_zero») +0
+
 unfoldable pub badParam : SolverParam → Bool
 unfolding lt
-badParam par =
-    not (isFinite (par .«eps_acc»)) || not (isFinite (par .«eps_inf»)) || not (isFinite (par .«eps_zero»))
-    || lt (par .«eps_zero») +0 || ltb mostSteps (par .«max_iter») || not (sweepsFit par)
+badParam par = badTolerance par || ltb mostSteps (par .«max_iter») || not (sweepsFit par)
 
 -- 2: "n or m above 256, or more than 32 cone words"
 abbrev pub largeSizes : ℕ → ℕ → List ℕ → Bool

@@ -2,7 +2,7 @@
 use Prim.Native.Nat.{ℕ, _+_, _≤_}
 use native.Mathlib.Nat.{mul-one}
 use mathlib.Core.Path.{_≡_, refl, sym, _∙_, subst}
-use mathlib.Core.Bool.{true}
+use mathlib.Core.Bool.{true, _&&_}
 use mathlib.Core.List.{List}
 use borrow.Author.Tests.{leb-true, eqb-true, le-leb, eq-eqb}
 use native.Mathlib.Omega.{arith}
@@ -17,7 +17,7 @@ use Rattle.rules.specs.Problem.{matrixOf, column}
 use Rattle.rules.specs.Step.{part}
 use Rattle.rules.proofs.Parts.{part-length}
 use Rattle.rules.proofs.Matrices.{both-true, stored-if-fits, fits-if-stored}
-use Rattle.shape.specs.Fitting.{isWithin, fitsX, fitsY, operatorsFit, Fits, LikeX, LikeY}
+use Rattle.shape.specs.Fitting.{isWithin, fitsX, fitsY, operatorsFit, embedFits, Fits, LikeX, LikeY}
 
 rows-of : (storage : Storage) (m n : ℕ) → nRow (matrixOf storage m n) ≡ m
 rows-of Dense m n = refl
@@ -101,3 +101,19 @@ module _ {shape : Shape} {y : List Float} (like : LikeY shape y) where
 
   pub long-1 : length (part (shape .cols .0 + shape .rows .0) 1 y) ≡ 1
   long-1 = part-length (shape .cols .0 + shape .rows .0) 1 y (omega (arith, like .is))
+
+-- what the operator asks, part by part, and the other way
+pub record EmbedFit (shape : Shape) (c a b x y : List Float) : Type 0 where
+  pub operators : Fits shape c a b
+  pub like-x : LikeX shape x
+  pub like-y : LikeY shape y
+
+pub embed-fit : (shape : Shape) (c a b x y : List Float) → embedFits shape c a b x y ≡ true → EmbedFit shape c a b x y
+embed-fit shape c a b x y h =
+    let p = both-true (operatorsFit shape c a b && fitsX shape x) _ h in
+    let q = both-true (operatorsFit shape c a b) (fitsX shape x) (p .0) in
+    record { operators = fits-of shape c a b (q .0); like-x = like-x shape x (q .1); like-y = like-y shape y (p .1) }
+
+-- for a caller whose lengths fit
+pub embed-fits : {shape : Shape} {c a b x y : List Float} → Fits shape c a b → LikeX shape x → LikeY shape y → embedFits shape c a b x y ≡ true
+embed-fits f x y = rw (operators-fit f, x-fits (sizes-within f) x) (y-fits (sizes-within f) y)

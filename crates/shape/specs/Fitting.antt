@@ -33,6 +33,10 @@ operatorsFit shape c a b =
     eqb (nCol (matrixIn shape)) (shape .cols .0) && eqb (length c) (shape .cols .0) && eqb (length b) (shape .rows .0)
     && storedFits (matrixIn shape) a
 
+-- the lengths that the embedding's operator asks, and its transpose
+abbrev pub embedFits : Shape → List Float → List Float → List Float → List Float → List Float → Bool
+embedFits shape c a b x y = operatorsFit shape c a b && fitsX shape x && fitsY shape y
+
 -- the same, part by part
 pub record Fits (shape : Shape) (c a b : List Float) : Type 0 where
   pub m-within : shape .rows .0 ≤ limit

@@ -9,7 +9,7 @@ use rules::Storage;
 ghost use mathlib.Core.Path.{_≡_};
 ghost use Rattle.rules.specs.Problem as rules;
 ghost use Rattle.rules.specs.Problem.{matrixIn};
-ghost use Rattle.shape.specs.Fitting.{isWithin, fitsX, fitsY, operatorsFit};
+ghost use Rattle.shape.specs.Fitting.{isWithin, fitsX, fitsY, operatorsFit, embedFits};
 
 // The matrix's kind with its sizes.
 pub fn matrix_of(shape: Shape) -> MatType
@@ -80,4 +80,17 @@ pub fn operators_fit(shape: Shape, c: &[f64], a: &[f64], b: &[f64]) -> bool
         return false;
     }
     matrix::stored_fits(t, a)
+}
+
+// Whether c, A and b, a vector like x and one like y have the lengths that the shape says.
+pub fn embed_fits(shape: Shape, c: &[f64], a: &[f64], b: &[f64], x: &[f64], y: &[f64]) -> bool
+    ensures { λ r. ⌜ r ≡ embedFits shape (now (c .entry)) (now (a .entry)) (now (b .entry)) (now (x .entry)) (now (y .entry)) ⌝ }
+{
+    if !operators_fit(shape, c, a, b) {
+        return false;
+    }
+    if !fits_x(shape, x) {
+        return false;
+    }
+    fits_y(shape, y)
 }

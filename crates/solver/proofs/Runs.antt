@@ -111,6 +111,10 @@ turn-within p ns s ready = projected-within p (movedX p s .x) (movedX p s .cone)
 
 -- ---- all steps
 
+-- cone work of the same length is as good
+pub still-ready : {par : SolverParam} {m : ℕ} {words : List ℕ} {k l : ℕ} → ConesReady par m words k → l ≡ k → ConesReady par m words l
+still-ready r e = record { within = r .within; readable = r .readable; places = r .places; sweeps = r .sweeps; enough = omega (arith, r .enough) }
+
 -- an ending other than a cone's failure has no block that failed
 no-failure : (par : SolverParam) (k : ℕ) (f : Failure) (criteria : Criteria) (e : Ending) → verdict par k f criteria ≡ Ends e → isConeFailure e ≡ false → f ≡ none
 unfolding verdict

@@ -56,7 +56,16 @@ pub fn solve(
                 cols,
                 storage,
             };
-            accepted(checks::read_eps(par), shape, c, a, b, words, work, cone_work)
+            accepted(
+                checks::read_eps(par),
+                shape,
+                c,
+                a,
+                b,
+                words,
+                work,
+                cone_work,
+            )
         }
     }
 }

@@ -140,7 +140,7 @@ fn move_x(
     ensures { λ _. ⌜ XMoved (embedIn shape (now (c .entry)) (now (a .entry)) (now (b .entry))) (now (x .entry)) (now (y .entry)) (now («dp_tau» .entry)) (now (tx .entry)) (now (x .exit)) (now (rx .exit)) (now (tx .exit)) ⌝ }
 {
     linalg::copy(x, rx);
-    embed::trans_op(shape, c, a, b, -1.0, y, 0.0, tx);
+    embed_trans::trans_op(shape, c, a, b, -1.0, y, 0.0, tx);
     linalg::transform_di(1.0, dp_tau, tx, 1.0, x);
 }
 

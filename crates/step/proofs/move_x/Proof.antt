@@ -4,7 +4,7 @@ use borrow.Author.Needs.{needs}
 use Rattle.rules.specs.Helpers.{one}
 use Rattle.rules.proofs.Kernels.{add-ruled}
 use Rattle.rules.proofs.Outcome.{ruled-if-fits}
-use Rattle.embed.proofs.Fitting.{embed-fits}
+use Rattle.shape.proofs.Fitting.{embed-fits}
 use Rattle.step.proofs.Moves.{di-ruled}
 use native.Mathlib.Omega.{arith}
 use Rattle.step.proofs.move_x.Statement.{statement}

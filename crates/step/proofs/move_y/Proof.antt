@@ -9,7 +9,7 @@ use Rattle.rules.proofs.Kernels.{add-ruled}
 use Rattle.rules.proofs.Outcome.{ruled-if-fits}
 use Rattle.rules.proofs.Parts.{put, from-start, part-length}
 use Rattle.shape.specs.Fitting.{LikeX, LikeY}
-use Rattle.embed.proofs.Fitting.{embed-fits}
+use Rattle.shape.proofs.Fitting.{embed-fits}
 use Rattle.step.proofs.Moves.{di-ruled, front-put, front-part}
 use Rattle.step.proofs.move_y.Statement.{statement}
 use Rattle.step.proofs.move_y.Tie as tie

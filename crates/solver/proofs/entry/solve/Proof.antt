@@ -19,13 +19,13 @@ read-eps-requires c κs = search needs
 
 accepted-requires : tie.Need-accepted-requires
 accepted-requires c κs =
-    let k = c @args in
-    taken (k .rows .0) (k .cols .0) (k .storage) (k .c .now) (k .a .now) (k .b .now) (k .words .now) (k .par) (k .work .now) (k .cone-work .now) _ (c @check .ensures) (c @enum-told .given .1) _ (c @read-eps .ensures)
+    let k = c .before .before .before .before .before .before .before .before .before .before .before .before .args in
+    taken (k .rows .0) (k .cols .0) (k .storage) (k .c .now) (k .a .now) (k .b .now) (k .words .now) (k .par) (k .work .now) (k .cone-work .now) _ (c .before .before .before .before .before .check .ensures) (c .before .before .before .enum-told .given .1) _ (c .before .before .read-eps .ensures)
 
 returns : tie.Need-returns
 returns c =
-    let k = c @args in
-    turned-away (problemOf (k .rows .0) (k .cols .0) (k .storage) (k .c .now) (k .a .now) (k .b .now) (k .words .now) (k .par)) (k .work .now) (k .cone-work .now) _ _ (c @check .ensures) (c @found .given .1)
+    let k = c .before .before .before .before .before .before .before .before .before .before .args in
+    turned-away (problemOf (k .rows .0) (k .cols .0) (k .storage) (k .c .now) (k .a .now) (k .b .now) (k .words .now) (k .par)) (k .work .now) (k .cone-work .now) _ _ (c .before .before .before .check .ensures) (c .before .found .given .1)
 
 same-length : tie.Need-same-length
 same-length c = search needs
@@ -35,8 +35,19 @@ same-length-2 c = search needs
 
 returns-2 : tie.Need-returns-2
 returns-2 c =
-    let k = c @args in
-    went-through (k .rows .0) (k .cols .0) (k .storage) (k .c .now) (k .a .now) (k .b .now) (k .words .now) (k .par) (k .work .now) (k .cone-work .now) _ (c @check .ensures) (c @enum-told .given .1) _ (c @read-eps .ensures) _ _ _ (c @accepted .ensures)
+    let k = c .before .before .before .before .before .before .before .before .before .before .before .before .before .before .before .before .before .args in
+    went-through (k .rows .0) (k .cols .0) (k .storage) (k .c .now) (k .a .now) (k .b .now) (k .words .now) (k .par) (k .work .now) (k .cone-work .now) _ (c .before .before .before .before .before .before .before .before .before .before .check .ensures) (c .before .before .before .before .before .before .before .before .enum-told .given .1) _ (c .before .before .before .before .before .before .before .read-eps .ensures) _ _ _ (c .before .before .before .before .accepted .ensures)
 
 pub solve-spec : {M : Type 1} → statement M
-solve-spec = tie.close (tie.spec check-requires enum-known-found enum-told read-eps-requires accepted-requires returns same-length same-length-2 returns-2)
+solve-spec =
+    tie.close
+    (tie.spec
+    check-requires
+    enum-known-found
+    enum-told
+    read-eps-requires
+    accepted-requires
+    returns
+    same-length
+    same-length-2
+    returns-2)

@@ -1,11 +1,13 @@
 -- `solver::run::iterate` meets its contract.
 use Prim.Native.Nat.{_-_}
 use native.Mathlib.Omega.{arith}
+use mathlib.Core.Path.{_≡_, refl}
 use borrow.Author.Needs.{needs}
+use lib.ListN.{length}
 use Rattle.rules.specs.Run.{allowance}
 use Rattle.rules.specs.Problem.{problemIn}
 use Rattle.step.specs.Update.{stateOf, StepReady}
-use Rattle.solver.proofs.Runs.{Running, running-start, running-counts, running-before, running-more, running-end}
+use Rattle.solver.proofs.Runs.{still-ready, Running, running-start, running-counts, running-before, running-more, running-end}
 use Rattle.solver.proofs.run.iterate.Statement.{statement}
 use Rattle.solver.proofs.run.iterate.Tie as tie
 
@@ -13,26 +15,24 @@ abbrev Inv-loop : tie.InvT-loop
 Inv-loop par shape c a b words norms x₀ y₀ dp-tau dp-sigma rx₀ tx₀ cone-work₀ k₀ q₀ x y rx tx cone-work k q =
     Running (problemIn shape c a b words par) norms (stateOf x₀ y₀ dp-tau dp-sigma rx₀ tx₀ cone-work₀) k q (stateOf x y dp-tau dp-sigma rx tx cone-work)
     × StepReady par shape c a b words (stateOf x y dp-tau dp-sigma rx tx cone-work)
+    × (length cone-work ≡ length cone-work₀)
 
 abbrev μ-loop : tie.MeasureT-loop
 μ-loop par shape c a b words norms x₀ y₀ dp-tau dp-sigma rx₀ tx₀ cone-work₀ k₀ q₀ x y rx tx cone-work k q = allowance par - k
 
 loop-holds : tie.Need-loop-holds Inv-loop μ-loop
 loop-holds c =
-    let start = c @START in
-    (running-start _ _ _, start .pre .0)
+    let start = c .before .before .before .before .before .before .before .before .before .before .before in
+    (running-start _ _ _, start .pre .0, refl)
 
-turn-requires : tie.Need-turn-requires Inv-loop μ-loop
-turn-requires c κs =
-    let start = c @START in
-    let i = c @loop .inv in
-    i .1
+step-on-requires : tie.Need-step-on-requires Inv-loop μ-loop
+step-on-requires c κs = c .before .before .before .before .before .loop .inv .1
 
 add-q : tie.Need-add-q Inv-loop μ-loop
 add-q c =
-    let start = c @START in
-    let i = c @loop .inv in
-    let t = c @turn in
+    let start = c .before .before .before .before .before .before .before .before .before .before .before .before .before .before .before .before .before .before .before .before .before .before .before .before .before .before .before .before .before in
+    let i = c .before .before .before .before .before .before .before .before .before .before .before .before .before .before .before .before .before .loop .inv in
+    let t = c .before .before .before .before .before .before .before .before .before .before .before .step-on in
     omega (arith, running-counts (i .0) (t .ensures) (i .1 .cones), i .0 .within, i .0 .most, start .pre .1)
 
 enum-known-v : tie.Need-enum-known-v Inv-loop μ-loop
@@ -40,70 +40,70 @@ enum-known-v c = search needs
 
 same-length : tie.Need-same-length Inv-loop μ-loop
 same-length c =
-    let start = c @START in
-    let i = c @loop .inv in
-    let t = c @turn in
+    let start = c .before .before .before .before .before .before .before .before .before .before .before .before .before .before .before .before .before .before .before .before .before .before .before .before .before .before .before .before .before .before .before .before in
+    let i = c .before .before .before .before .before .before .before .before .before .before .before .before .before .before .before .before .before .before .before .before .loop .inv in
+    let t = c .before .before .before .before .before .before .before .before .before .before .before .before .before .before .step-on in
     omega (arith, start .pre .0 .x-like, i .1 .x-like .is, t .kept)
 
 same-length-2 : tie.Need-same-length-2 Inv-loop μ-loop
 same-length-2 c =
-    let start = c @START in
-    let i = c @loop .inv in
-    let t = c @turn in
+    let start = c .before .before .before .before .before .before .before .before .before .before .before .before .before .before .before .before .before .before .before .before .before .before .before .before .before .before .before .before .before .before .before .before in
+    let i = c .before .before .before .before .before .before .before .before .before .before .before .before .before .before .before .before .before .before .before .before .loop .inv in
+    let t = c .before .before .before .before .before .before .before .before .before .before .before .before .before .before .step-on in
     omega (arith, start .pre .0 .y-like, i .1 .y-like .is, t .kept)
 
 same-length-3 : tie.Need-same-length-3 Inv-loop μ-loop
 same-length-3 c =
-    let start = c @START in
-    let i = c @loop .inv in
-    let t = c @turn in
+    let start = c .before .before .before .before .before .before .before .before .before .before .before .before .before .before .before .before .before .before .before .before .before .before .before .before .before .before .before .before .before .before .before .before in
+    let i = c .before .before .before .before .before .before .before .before .before .before .before .before .before .before .before .before .before .before .before .before .loop .inv in
+    let t = c .before .before .before .before .before .before .before .before .before .before .before .before .before .before .step-on in
     omega (arith, start .pre .0 .rx-like, i .1 .rx-like .is, t .kept)
 
 same-length-4 : tie.Need-same-length-4 Inv-loop μ-loop
 same-length-4 c =
-    let start = c @START in
-    let i = c @loop .inv in
-    let t = c @turn in
+    let start = c .before .before .before .before .before .before .before .before .before .before .before .before .before .before .before .before .before .before .before .before .before .before .before .before .before .before .before .before .before .before .before .before in
+    let i = c .before .before .before .before .before .before .before .before .before .before .before .before .before .before .before .before .before .before .before .before .loop .inv in
+    let t = c .before .before .before .before .before .before .before .before .before .before .before .before .before .before .step-on in
     omega (arith, start .pre .0 .tx-like, i .1 .tx-like .is, t .kept)
 
 same-length-5 : tie.Need-same-length-5 Inv-loop μ-loop
 same-length-5 c =
-    let start = c @START in
-    let i = c @loop .inv in
-    let t = c @turn in
-    ?
+    let start = c .before .before .before .before .before .before .before .before .before .before .before .before .before .before .before .before .before .before .before .before .before .before .before .before .before .before .before .before .before .before .before .before in
+    let i = c .before .before .before .before .before .before .before .before .before .before .before .before .before .before .before .before .before .before .before .before .loop .inv in
+    let t = c .before .before .before .before .before .before .before .before .before .before .before .before .before .before .step-on in
+    omega (arith, i .2, t .kept)
 
 returns : tie.Need-returns Inv-loop μ-loop
 returns c =
-    let start = c @START in
-    let i = c @loop .inv in
-    let t = c @turn in
-    running-end (i .0) (t .ensures) _ (c @v .given .1)
+    let start = c .before .before .before .before .before .before .before .before .before .before .before .before .before .before .before .before .before .before .before .before .before .before .before .before .before .before .before .before .before .before .before .before in
+    let i = c .before .before .before .before .before .before .before .before .before .before .before .before .before .before .before .before .before .before .before .before .loop .inv in
+    let t = c .before .before .before .before .before .before .before .before .before .before .before .before .before .before .step-on in
+    running-end (i .0) (t .ensures) _ (c .before .v .given .1)
 
 enum-told : tie.Need-enum-told Inv-loop μ-loop
 enum-told c = search needs
 
 add-k : tie.Need-add-k Inv-loop μ-loop
 add-k c =
-    let start = c @START in
-    let i = c @loop .inv in
-    let t = c @turn in
+    let start = c .before .before .before .before .before .before .before .before .before .before .before .before .before .before .before .before .before .before .before .before .before .before .before .before .before .before .before .before .before .before .before in
+    let i = c .before .before .before .before .before .before .before .before .before .before .before .before .before .before .before .before .before .before .before .loop .inv in
+    let t = c .before .before .before .before .before .before .before .before .before .before .before .before .before .step-on in
     omega (arith, i .0 .most, start .pre .1)
 
 loop-less : tie.Need-loop-less Inv-loop μ-loop
 loop-less c =
-    let start = c @START in
-    let i = c @loop .inv in
-    let t = c @turn in
-    omega (arith, i .0 .most, running-before (i .0) (t .ensures) (c @enum-told .given .1))
+    let start = c .before .before .before .before .before .before .before .before .before .before .before .before .before .before .before .before .before .before .before .before .before .before .before .before .before .before .before .before .before .before .before in
+    let i = c .before .before .before .before .before .before .before .before .before .before .before .before .before .before .before .before .before .before .before .loop .inv in
+    let t = c .before .before .before .before .before .before .before .before .before .before .before .before .before .step-on in
+    omega (arith, i .0 .most, running-before (i .0) (t .ensures) (c .enum-told .given .1))
 
 loop-again : tie.Need-loop-again Inv-loop μ-loop
 loop-again c =
-    let start = c @START in
-    let i = c @loop .inv in
-    let t = c @turn in
+    let start = c .before .before .before .before .before .before .before .before .before .before .before .before .before .before .before .before .before .before .before .before .before .before .before .before .before .before .before .before .before .before .before in
+    let i = c .before .before .before .before .before .before .before .before .before .before .before .before .before .before .before .before .before .before .before .loop .inv in
+    let t = c .before .before .before .before .before .before .before .before .before .before .before .before .before .step-on in
     let f = i .1 in
-    (running-more (i .0) (t .ensures) (f .cones) (c @enum-told .given .1), record { operators = f .operators; cones = ?; x-like = record { is = omega (arith, f .x-like .is, t .kept) }; y-like = record { is = omega (arith, f .y-like .is, t .kept) }; tau-like = f .tau-like; sigma-like = f .sigma-like; rx-like = record { is = omega (arith, f .rx-like .is, t .kept) }; tx-like = record { is = omega (arith, f .tx-like .is, t .kept) } })
+    (running-more (i .0) (t .ensures) (f .cones) (c .enum-told .given .1), record { operators = f .operators; cones = still-ready (f .cones) (omega (arith, t .kept)); x-like = record { is = omega (arith, f .x-like .is, t .kept) }; y-like = record { is = omega (arith, f .y-like .is, t .kept) }; tau-like = f .tau-like; sigma-like = f .sigma-like; rx-like = record { is = omega (arith, f .rx-like .is, t .kept) }; tx-like = record { is = omega (arith, f .tx-like .is, t .kept) } }, omega (arith, i .2, t .kept))
 
 pub iterate-spec : {M : Type 1} → statement M
 iterate-spec =
@@ -112,7 +112,7 @@ iterate-spec =
     Inv-loop
     μ-loop
     loop-holds
-    turn-requires
+    step-on-requires
     add-q
     enum-known-v
     same-length

@@ -11,15 +11,15 @@ clear-requires c κs = search needs
 
 prepare-all-requires : tie.Need-prepare-all-requires
 prepare-all-requires c κs =
-    let start = c @START in
+    let start = c .before .before .before .before .before .before .before .before .before .before .before .before .before .before .before .before .before .before .before .before in
     let z = start .pre .1 in
     record { operators = start .pre .0 .ready .operators; covers = covers (start .pre .0 .ready); x-like = zero-x z; y-like = zero-y z; tau-like = zero-tau z; sigma-like = zero-sigma z }
 
 iterate-requires : tie.Need-iterate-requires
 iterate-requires c κs =
-    let start = c @START in
-    let cleared = c @clear in
-    let before = c @prepare-all in
+    let start = c .before .before .before .before .before .before .before .before .before .before .before .before .before .before .before .before .before .before .before .before .before .before .before .before .before .before .before .before .before .before .before .before .before .before .before .before in
+    let cleared = c .before .before .before .before .before .before .before .before .before .before .before .before .before .before .before .before .before .before .before .before .before .before .clear in
+    let before = c .before .before .before .before .before .before .before .before .before .before .before .before .before .before .before .prepare-all in
     let z = start .pre .1 in
     let q = before .ensures in
     let r = start .pre .0 .ready in
@@ -30,56 +30,56 @@ settle-requires c κs = search needs
 
 same-length : tie.Need-same-length
 same-length c =
-    let before = c @prepare-all in
-    let steps = c @iterate in
-    let after = c @settle in
+    let before = c .before .before .before .before .before .before .before .before .before .before .before .before .before .before .before .before .before .before .before .before .before .before .before .before .before .before .before .before .before .before .before .before .before .before .before .before .before .before .before .before .before .before .before .prepare-all in
+    let steps = c .before .before .before .before .before .before .before .before .before .before .before .before .before .before .before .before .before .before .before .before .before .before .before .before .before .before .before .iterate in
+    let after = c .before .before .before .before .before .before .settle in
     omega (arith, before .kept, steps .kept, after .kept)
 
 same-length-2 : tie.Need-same-length-2
 same-length-2 c =
-    let before = c @prepare-all in
-    let steps = c @iterate in
+    let before = c .before .before .before .before .before .before .before .before .before .before .before .before .before .before .before .before .before .before .before .before .before .before .before .before .before .before .before .before .before .before .before .before .before .before .before .before .before .before .before .before .before .before .before .prepare-all in
+    let steps = c .before .before .before .before .before .before .before .before .before .before .before .before .before .before .before .before .before .before .before .before .before .before .before .before .before .before .before .iterate in
     omega (arith, before .kept, steps .kept)
 
 same-length-3 : tie.Need-same-length-3
 same-length-3 c =
-    let before = c @prepare-all in
+    let before = c .before .before .before .before .before .before .before .before .before .before .before .before .before .before .before .before .before .before .before .before .before .before .before .before .before .before .before .before .before .before .before .before .before .before .before .before .before .before .before .before .before .before .before .prepare-all in
     omega (arith, before .kept)
 
 same-length-4 : tie.Need-same-length-4
 same-length-4 c =
-    let before = c @prepare-all in
+    let before = c .before .before .before .before .before .before .before .before .before .before .before .before .before .before .before .before .before .before .before .before .before .before .before .before .before .before .before .before .before .before .before .before .before .before .before .before .before .before .before .before .before .before .before .prepare-all in
     omega (arith, before .kept)
 
 same-length-5 : tie.Need-same-length-5
 same-length-5 c =
-    let steps = c @iterate in
+    let steps = c .before .before .before .before .before .before .before .before .before .before .before .before .before .before .before .before .before .before .before .before .before .before .before .before .before .before .before .iterate in
     omega (arith, steps .kept)
 
 same-length-6 : tie.Need-same-length-6
 same-length-6 c =
-    let steps = c @iterate in
+    let steps = c .before .before .before .before .before .before .before .before .before .before .before .before .before .before .before .before .before .before .before .before .before .before .before .before .before .before .before .iterate in
     omega (arith, steps .kept)
 
 same-length-7 : tie.Need-same-length-7
 same-length-7 c =
-    let after = c @settle in
+    let after = c .before .before .before .before .before .before .settle in
     omega (arith, after .kept)
 
 same-length-8 : tie.Need-same-length-8
 same-length-8 c =
-    let cleared = c @clear in
-    let steps = c @iterate in
-    let after = c @settle in
+    let cleared = c .before .before .before .before .before .before .before .before .before .before .before .before .before .before .before .before .before .before .before .before .before .before .before .before .before .before .before .before .before .before .before .before .before .before .before .before .before .before .before .before .before .before .before .before .before .before .before .before .before .before .clear in
+    let steps = c .before .before .before .before .before .before .before .before .before .before .before .before .before .before .before .before .before .before .before .before .before .before .before .before .before .before .before .iterate in
+    let after = c .before .before .before .before .before .before .settle in
     omega (arith, cleared .kept, steps .kept, after .kept)
 
 returns : tie.Need-returns
 returns c =
-    let start = c @START in
-    let cleared = c @clear in
-    let before = c @prepare-all in
-    let steps = c @iterate in
-    let after = c @settle in
+    let start = c .before .before .before .before .before .before .before .before .before .before .before .before .before .before .before .before .before .before .before .before .before .before .before .before .before .before .before .before .before .before .before .before .before .before .before .before .before .before .before .before .before .before .before .before .before .before .before .before .before .before .before .before .before .before .before .before .before .before .before .before .before .before .before .before in
+    let cleared = c .before .before .before .before .before .before .before .before .before .before .before .before .before .before .before .before .before .before .before .before .before .before .before .before .before .before .before .before .before .before .before .before .before .before .before .before .before .before .before .before .before .before .before .before .before .before .before .before .before .before .clear in
+    let before = c .before .before .before .before .before .before .before .before .before .before .before .before .before .before .before .before .before .before .before .before .before .before .before .before .before .before .before .before .before .before .before .before .before .before .before .before .before .before .before .before .before .before .before .prepare-all in
+    let steps = c .before .before .before .before .before .before .before .before .before .before .before .before .before .before .before .before .before .before .before .before .before .before .before .before .before .before .before .iterate in
+    let after = c .before .before .before .before .before .before .settle in
     let z = start .pre .1 in
     let q = before .ensures in
     let whole = whole-run z (before .ensures) (start .pre .0) (cleared .ensures) (steps .ensures) in

@@ -1,9 +1,9 @@
--- `embed::fits` meets its contract.
+-- `shape::embed_fits` meets its contract.
 use mathlib.Core.Path.{sym, _∙_}
 use borrow.Author.Needs.{needs}
 use borrow.Author.Tests.{not-true, not-false}
-use Rattle.embed.proofs.fits.Statement.{statement}
-use Rattle.embed.proofs.fits.Tie as tie
+use Rattle.shape.proofs.embed_fits.Statement.{statement}
+use Rattle.shape.proofs.embed_fits.Tie as tie
 
 operators-fit-requires : tie.Need-operators-fit-requires
 operators-fit-requires c κs = search needs
@@ -23,8 +23,8 @@ fits-y-requires c κs = search needs
 returns-3 : tie.Need-returns-3
 returns-3 c = rw (sym (c .before .before .before .before .operators-fit .ensures) ∙ not-false _ (c .before .before .before .if1 .left), sym (c .before .before .fits-x .ensures) ∙ not-false _ (c .before .if2 .left)) (c .fits-y .ensures)
 
-pub fits-spec : {M : Type 1} → statement M
-fits-spec =
+pub embed-fits-spec : {M : Type 1} → statement M
+embed-fits-spec =
     tie.close
     (tie.spec
     operators-fit-requires

@@ -1,4 +1,4 @@
--- `embed::trans_x` meets its contract.
+-- `embed_trans::trans_x` meets its contract.
 use Prim.Native.Nat.{_+_}
 use native.Mathlib.Omega.{arith}
 use mathlib.Core.Path.{sym, _∙_}
@@ -8,8 +8,8 @@ use Rattle.rules.specs.Step.{part}
 use Rattle.rules.proofs.Kernels.{trans-op-ruled, op-ruled}
 use Rattle.rules.proofs.Parts.{places}
 use Rattle.shape.proofs.Fitting.{c-stored, long-m, long-1}
-use Rattle.embed.proofs.trans_x.Statement.{statement}
-use Rattle.embed.proofs.trans_x.Tie as tie
+use Rattle.embed_trans.proofs.trans_x.Statement.{statement}
+use Rattle.embed_trans.proofs.trans_x.Tie as tie
 
 add-nm : tie.Need-add-nm
 add-nm c = search needs

@@ -1,4 +1,4 @@
--- `embed::trans_all` meets its contract.
+-- `embed_trans::trans_all` meets its contract.
 use native.Mathlib.Omega.{arith}
 use mathlib.Core.Path.{_≡_, _∙_}
 use borrow.Author.Needs.{needs}
@@ -6,8 +6,8 @@ use lib.ListN.{length}
 use Rattle.rules.specs.Step.{transX, transY, transS, transTau}
 use Rattle.rules.proofs.Parts.{from-start, lent-2, lent-3, lent-4, put-4}
 use Rattle.shape.proofs.Joined.{join-4}
-use Rattle.embed.proofs.trans_all.Statement.{statement}
-use Rattle.embed.proofs.trans_all.Tie as tie
+use Rattle.embed_trans.proofs.trans_all.Statement.{statement}
+use Rattle.embed_trans.proofs.trans_all.Tie as tie
 
 add-nm : tie.Need-add-nm
 add-nm c = search needs

@@ -1,4 +1,4 @@
--- `embed::trans_tau` meets its contract.
+-- `embed_trans::trans_tau` meets its contract.
 use Prim.Native.Nat.{_+_}
 use native.Mathlib.Omega.{arith}
 use mathlib.Core.Path.{sym, _∙_}
@@ -8,8 +8,8 @@ use Rattle.rules.specs.Step.{part}
 use Rattle.rules.proofs.Kernels.{trans-op-ruled}
 use Rattle.rules.proofs.Parts.{places, from-start}
 use Rattle.shape.proofs.Fitting.{c-stored, b-stored, long-n, long-m}
-use Rattle.embed.proofs.trans_tau.Statement.{statement}
-use Rattle.embed.proofs.trans_tau.Tie as tie
+use Rattle.embed_trans.proofs.trans_tau.Statement.{statement}
+use Rattle.embed_trans.proofs.trans_tau.Tie as tie
 
 add-nm : tie.Need-add-nm
 add-nm c = search needs

@@ -1,4 +1,4 @@
--- `embed::trans_s` meets its contract.
+-- `embed_trans::trans_s` meets its contract.
 use Prim.Native.Nat.{_+_}
 use native.Mathlib.Omega.{arith}
 use mathlib.Core.Path.{sym, _∙_}
@@ -8,8 +8,8 @@ use Rattle.rules.specs.Step.{part}
 use Rattle.rules.proofs.Kernels.{add-ruled}
 use Rattle.rules.proofs.Parts.{places}
 use Rattle.shape.proofs.Fitting.{long-m}
-use Rattle.embed.proofs.trans_s.Statement.{statement}
-use Rattle.embed.proofs.trans_s.Tie as tie
+use Rattle.embed_trans.proofs.trans_s.Statement.{statement}
+use Rattle.embed_trans.proofs.trans_s.Tie as tie
 
 add-nm : tie.Need-add-nm
 add-nm c = search needs

@@ -15,7 +15,7 @@ use Rattle.rules.specs.declared.Refusal.{Refusal}
 use Rattle.rules.specs.declared.Refusal.the-variants.{Accepted, Refused}
 use Rattle.rules.specs.Limits.{limit, mostWords}
 use Rattle.rules.specs.Blocks.{isBadCone}
-use Rattle.rules.specs.Refusals.{Fact, _when_, firstOf, badParam, largeSizes, wrongLengths, someInfinite, shortBuffers, refusal}
+use Rattle.rules.specs.Refusals.{Fact, _when_, firstOf, asRefusal, badParam, largeSizes, wrongLengths, someInfinite, shortBuffers, refusal}
 use Rattle.rules.specs.Problem.{problemOf}
 
 neither : (a b : Bool) → a || b ≡ false → (a ≡ false) × (b ≡ false)
@@ -30,14 +30,14 @@ sizes-within m n words e =
 
 -- ---- a row that holds answers, and one that does not leaves it to the others
 
-pub record Answers (rows : List Fact) (r : Refusal) : Type 0 where
-  pub is : r ≡ firstOf rows
+pub record Answers (rows : List (Fact Ending)) (r : Refusal) : Type 0 where
+  pub is : r ≡ asRefusal (firstOf rows)
 
-pub here : {e : Ending} {t : Bool} {rows : List Fact} → t ≡ true → Answers ((e when t) ∷ rows) (Refused e)
+pub here : {e : Ending} {t : Bool} {rows : List (Fact Ending)} → t ≡ true → Answers ((e when t) ∷ rows) (Refused e)
 unfolding firstOf
 here h = record { is = rw h }
 
-pub past : {e : Ending} {t : Bool} {rows : List Fact} {r : Refusal} → t ≡ false → Answers rows r → Answers ((e when t) ∷ rows) r
+pub past : {e : Ending} {t : Bool} {rows : List (Fact Ending)} {r : Refusal} → t ≡ false → Answers rows r → Answers ((e when t) ∷ rows) r
 unfolding firstOf
 past h rest = record { is = rw h (rest .is) }
 
@@ -48,7 +48,7 @@ none-left = record { is = refl }
 -- ---- the table, by the parts of a problem
 
 module _ (m n : ℕ) (storage : Storage) (c a b : List Float) (words : List ℕ) (par : SolverParam) (work cone : ℕ) where
-  abbrev pub table : List Fact
+  abbrev pub table : List (Fact Ending)
   table =
       (BadParam when badParam par)
       ∷ (TooLarge when largeSizes m n words)
@@ -58,7 +58,7 @@ module _ (m n : ℕ) (storage : Storage) (c a b : List Float) (words : List ℕ)
       ∷ (WorkShortage when shortBuffers m n words work cone)
       ∷ []
 
-  by-parts : firstOf table ≡ refusal (problemOf m n storage c a b words par) work cone
+  by-parts : asRefusal (firstOf table) ≡ refusal (problemOf m n storage c a b words par) work cone
   unfolding refusal
   by-parts = refl
 

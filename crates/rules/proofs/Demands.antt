@@ -23,8 +23,8 @@ use Rattle.rules.proofs.Answered as Answered
 
 -- ---- demand 1
 
--- "the first that applies answers, and none is given otherwise": of any list of facts whose refusals are numbered from 1 on
-pub given-exactly : (rows : List Fact) → NumberedFrom 1 rows → GivenExactly rows
+-- "the first that applies answers, and none is given otherwise": of any table whose refusals are numbered from 1 on
+pub given-exactly : {R : Type 0} (number : R → ℕ) (rows : List (Fact R)) → NumberedFrom number 1 rows → GivenExactly number rows
 given-exactly = Refusals.given-exactly
 
 -- "A refusal has its number, is given exactly when its fact is the first in document 01 to hold, and changes no buffer."

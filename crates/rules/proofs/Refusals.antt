@@ -18,116 +18,123 @@ use Rattle.rules.specs.declared.Criteria.{Criteria}
 use Rattle.rules.specs.declared.Criteria.the-variants.{Conv, Inf}
 use Rattle.rules.specs.declared.Verdict.the-variants.{Ends, GoesOn}
 use Rattle.rules.specs.Run.{verdict, allowance, run, Left, leftBy}
-use Rattle.rules.specs.declared.Refusal.{Refusal}
-use Rattle.rules.specs.declared.Refusal.the-variants.{Accepted, Refused}
+use Rattle.rules.specs.declared.Refusal.the-variants.{Accepted}
 use Rattle.rules.specs.Blocks.{isBadCone}
-use Rattle.rules.specs.Refusals.{Fact, _when_, facts, firstOf, refusalOn, numberOf, refusal, badCone, shortBuffers, workShortage, readProblem, turnedAway, leftAfter, solved, SolveOutcome}
+use Rattle.rules.specs.Refusals.{Fact, _when_, First, none-applies, applies, firstOf, facts, asRefusal, refusal, numberOf, badCone, shortBuffers, workShortage, readProblem, turnedAway, leftAfter, solved, SolveOutcome}
 use Rattle.rules.specs.Demands.{holdsAt, NoneHolds, FirstToHold, NumberedFrom, numberGiven, GivenExactly, TurnedAwayExactly, step}
 use Rattle.rules.proofs.Columns.{by-less}
 use Rattle.rules.proofs.Run.{ends-first}
 
--- ---- any list of facts
+-- ---- any table of refusals
 
-none-in-none : (i : ℕ) → holdsAt [] i ≡ false
-none-in-none zero = refl
-none-in-none (suc i) = refl
+module _ {R : Type 0} where
+  none-before-one : (rows : List (Fact R)) (j : ℕ) → j < 1 → holdsAt rows j ≡ false
+  none-before-one rows zero h = refl
+  none-before-one rows (suc j) h = absurd (omega arith)
 
--- what a list whose refusals are numbered from suc k on gives
-record GivenAt (k : ℕ) (rows : List Fact) (e : Ending) : Type 0 where
-  place : ℕ
-  first : FirstToHold rows place
-  number : numberOf e ≡ k + place
+  -- two facts are not both the first
+  only-first : {rows : List (Fact R)} {i j : ℕ} → FirstToHold rows i → FirstToHold rows j → i ≡ j
+  only-first {rows} {i} {j} f g =
+      by-less i j (λ l. absurd (true≢false (sym (f .holds) ∙ g .none-before i l)))
+      (λ l. by-less j i (λ k. absurd (true≢false (sym (g .holds) ∙ f .none-before j k))) (λ k. omega arith))
 
-abbrev Says : ℕ → List Fact → Refusal → Type 0
-Says k rows Accepted = NoneHolds rows
-Says k rows (Refused e) = GivenAt k rows e
+module _ {R : Type 0} (number : R → ℕ) where
+  none-in-none : (i : ℕ) → holdsAt {R = R} [] i ≡ false
+  none-in-none zero = refl
+  none-in-none (suc i) = refl
 
-none-before-one : (rows : List Fact) (j : ℕ) → j < 1 → holdsAt rows j ≡ false
-none-before-one rows zero h = refl
-none-before-one rows (suc j) h = absurd (omega arith)
+  -- what a table whose refusals are numbered from suc k on gives
+  record GivenAt (k : ℕ) (rows : List (Fact R)) (e : R) : Type 0 where
+    place : ℕ
+    first : FirstToHold rows place
+    numbered-so : number e ≡ k + place
 
--- a row that does not hold, before others
-one-more : (k : ℕ) (e : Ending) (rows : List Fact) (r : Refusal) → Says (suc k) rows r → Says k ((e when false) ∷ rows) r
-one-more k e rows Accepted s = later
-  where
-    later : (i : ℕ) → holdsAt ((e when false) ∷ rows) i ≡ false
-    later zero = refl
-    later (suc zero) = refl
-    later (suc (suc i)) = s (suc i)
-one-more k e rows (Refused x) s = go (s .place) refl
-  where
-    go : (i : ℕ) → s .place ≡ i → GivenAt k ((e when false) ∷ rows) x
-    go zero is = absurd (true≢false (sym (s .first .holds) ∙ ap (holdsAt rows) is))
-    go (suc i) is =
-        record {
-          place = suc (suc i);
-          first = record { holds = rw is at (s .first .holds); none-before = before };
-          number = omega (arith, s .number);
-        }
-      where
-        before : (j : ℕ) → j < suc (suc i) → holdsAt ((e when false) ∷ rows) j ≡ false
-        before zero h = refl
-        before (suc zero) h = refl
-        before (suc (suc j)) h = s .first .none-before (suc j) (omega arith)
+  abbrev Says : ℕ → List (Fact R) → First R → Type 0
+  Says k rows none-applies = NoneHolds rows
+  Says k rows (applies e) = GivenAt k rows e
 
-says : (k : ℕ) (rows : List Fact) → NumberedFrom (suc k) rows → Says k rows (firstOf rows)
-unfolding firstOf
-says k [] n = none-in-none
-says k ((e when true) ∷ rows) n =
-    let number : numberOf e ≡ suc k = ap refusalOn (n .0) in
-    record { place = 1; first = record { holds = refl; none-before = none-before-one ((e when true) ∷ rows) }; number = omega arith }
-says k ((e when false) ∷ rows) n = one-more k e rows (firstOf rows) (says (suc k) rows (n .1))
+  -- a row that does not hold, before others
+  one-more : (k : ℕ) (e : R) (rows : List (Fact R)) (r : First R) → Says (suc k) rows r → Says k ((e when false) ∷ rows) r
+  one-more k e rows none-applies s = later
+    where
+      later : (i : ℕ) → holdsAt ((e when false) ∷ rows) i ≡ false
+      later zero = refl
+      later (suc zero) = refl
+      later (suc (suc i)) = s (suc i)
+  one-more k e rows (applies x) s = go (s .place) refl
+    where
+      go : (i : ℕ) → s .place ≡ i → GivenAt k ((e when false) ∷ rows) x
+      go zero is = absurd (true≢false (sym (s .first .holds) ∙ ap (holdsAt rows) is))
+      go (suc i) is =
+          record {
+            place = suc (suc i);
+            first = record { holds = rw is at (s .first .holds); none-before = before };
+            numbered-so = omega (arith, s .numbered-so);
+          }
+        where
+          before : (j : ℕ) → j < suc (suc i) → holdsAt ((e when false) ∷ rows) j ≡ false
+          before zero h = refl
+          before (suc zero) h = refl
+          before (suc (suc j)) h = s .first .none-before (suc j) (omega arith)
 
--- two facts are not both the first
-only-first : {rows : List Fact} {i j : ℕ} → FirstToHold rows i → FirstToHold rows j → i ≡ j
-only-first {rows} {i} {j} f g =
-    by-less i j (λ l. absurd (true≢false (sym (f .holds) ∙ g .none-before i l)))
-    (λ l. by-less j i (λ k. absurd (true≢false (sym (g .holds) ∙ f .none-before j k))) (λ k. omega arith))
+  says : (k : ℕ) (rows : List (Fact R)) → NumberedFrom number (suc k) rows → Says k rows (firstOf rows)
+  unfolding firstOf
+  says k [] n = none-in-none
+  says k ((e when true) ∷ rows) n =
+      let so : number e ≡ suc k = n .0 in
+      record { place = 1; first = record { holds = refl; none-before = none-before-one ((e when true) ∷ rows) }; numbered-so = omega arith }
+  says k ((e when false) ∷ rows) n = one-more k e rows (firstOf rows) (says (suc k) rows (n .1))
 
-given-by : (rows : List Fact) (r : Refusal) → Says 0 rows r → (i : ℕ) → 1 ≤ i → (numberGiven r ≡ i) ↔ FirstToHold rows i
-given-by rows Accepted s i h = (λ e. absurd (omega arith), λ f. absurd (true≢false (sym (f .holds) ∙ s i)))
-given-by rows (Refused x) s i h = (
-  λ e.
-      let same : s .place ≡ i = omega (arith, s .number) in
-      rw (← same) (s .first),
-  λ f.
-      let same : s .place ≡ i = only-first (s .first) f in
-      omega (arith, s .number),
-)
+  given-by : (rows : List (Fact R)) (r : First R) → Says 0 rows r → (i : ℕ) → 1 ≤ i → (numberGiven number r ≡ i) ↔ FirstToHold rows i
+  given-by rows none-applies s i h = (λ e. absurd (omega arith), λ f. absurd (true≢false (sym (f .holds) ∙ s i)))
+  given-by rows (applies x) s i h = (
+    λ e.
+        let same : s .place ≡ i = omega (arith, s .numbered-so) in
+        rw (← same) (s .first),
+    λ f.
+        let same : s .place ≡ i = only-first (s .first) f in
+        omega (arith, s .numbered-so),
+  )
 
-accepts-by : (rows : List Fact) (r : Refusal) → Says 0 rows r → (r ≡ Accepted) ↔ NoneHolds rows
-accepts-by rows Accepted s = (λ e. s, λ n. refl)
-accepts-by rows (Refused x) s = (
-  λ e.
-      let z : _≡_ {A = ℕ} 0 1 = cc in
-      absurd (omega arith),
-  λ n. absurd (true≢false (sym (s .first .holds) ∙ n (s .place))),
-)
+  accepts-by : (rows : List (Fact R)) (r : First R) → Says 0 rows r → (r ≡ none-applies) ↔ NoneHolds rows
+  accepts-by rows none-applies s = (λ e. s, λ n. refl)
+  accepts-by rows (applies x) s = (
+    λ e.
+        let z : _≡_ {A = ℕ} 0 1 = cc in
+        absurd (omega arith),
+    λ n. absurd (true≢false (sym (s .first .holds) ∙ n (s .place))),
+  )
 
--- of any list: the first fact to hold answers
-pub given-exactly : (rows : List Fact) → NumberedFrom 1 rows → GivenExactly rows
-given-exactly rows n =
-    let s = says 0 rows n in
-    record { refuses = given-by rows (firstOf rows) s; accepts = accepts-by rows (firstOf rows) s }
+  -- the first fact to hold answers
+  pub given-exactly : (rows : List (Fact R)) → NumberedFrom number 1 rows → GivenExactly number rows
+  given-exactly rows n =
+      let s = says 0 rows n in
+      record { refuses = given-by rows (firstOf rows) s; accepts = accepts-by rows (firstOf rows) s }
 
 -- ---- the table's
 
-pub numbered : (p : Problem) (work cone : ℕ) → NumberedFrom 1 (facts p work cone)
+pub numbered : (p : Problem) (work cone : ℕ) → NumberedFrom numberOf 1 (facts p work cone)
 numbered p work cone = (refl, (refl, (refl, (refl, (refl, (refl, tt))))))
 
-refusal-is : (p : Problem) (work cone : ℕ) → refusal p work cone ≡ firstOf (facts p work cone)
+refusal-is : (p : Problem) (work cone : ℕ) → refusal p work cone ≡ asRefusal (firstOf (facts p work cone))
 unfolding refusal
 refusal-is p work cone = refl
 
-table-given : (p : Problem) (work cone : ℕ) → GivenExactly (facts p work cone)
-table-given p work cone = given-exactly (facts p work cone) (numbered p work cone)
+accepted-is : (r : First Ending) → asRefusal r ≡ Accepted → r ≡ none-applies
+accepted-is none-applies e = refl
+accepted-is (applies x) e =
+    let z : _≡_ {A = ℕ} 0 1 = cc in
+    absurd (omega arith)
+
+table-given : (p : Problem) (work cone : ℕ) → GivenExactly numberOf (facts p work cone)
+table-given p work cone = given-exactly numberOf (facts p work cone) (numbered p work cone)
 
 -- where a problem is accepted no fact holds
 pub none-holds : (p : Problem) (work cone : ℕ) → refusal p work cone ≡ Accepted → NoneHolds (facts p work cone)
-none-holds p work cone e = table-given p work cone .accepts .0 (sym (refusal-is p work cone) ∙ e)
+none-holds p work cone e = table-given p work cone .accepts .0 (accepted-is (firstOf (facts p work cone)) (sym (refusal-is p work cone) ∙ e))
 
 pub accepted-if-none-holds : (p : Problem) (work cone : ℕ) → NoneHolds (facts p work cone) → refusal p work cone ≡ Accepted
-accepted-if-none-holds p work cone n = refusal-is p work cone ∙ table-given p work cone .accepts .1 n
+accepted-if-none-holds p work cone n = refusal-is p work cone ∙ ap asRefusal (table-given p work cone .accepts .1 n)
 
 -- as the problem is read now nothing of it moves but eps_zero, so that the two facts of the read problem are those of the problem handed over
 pub bad-cone-as-handed : (p : Problem) → badCone p ≡ isBadCone (p .words) (p .m)
@@ -192,30 +199,31 @@ unfolding leftBy
 ran-unnumbered p work cone = run-unnumbered (readProblem p)
 
 module _ (p : Problem) (work cone : List Float) where
-  abbrev rows : List Fact
+  abbrev rows : List (Fact Ending)
   rows = facts p (length work) (length cone)
 
   -- an accepted run gives no number, and a refusal its own
-  number-given : (ran : Left) → numberOf (ran .answer .ending) ≡ 0 → (r : Refusal) → numberOf (leftAfter r ran work cone .answer .ending) ≡ numberGiven r
-  number-given ran n Accepted = n
-  number-given ran n (Refused x) = refl
+  number-given : (ran : Left) → numberOf (ran .answer .ending) ≡ 0 → (r : First Ending) → numberOf (leftAfter (asRefusal r) ran work cone .answer .ending) ≡ numberGiven numberOf r
+  number-given ran n none-applies = n
+  number-given ran n (applies x) = refl
 
-  unchanged-by : (ran : Left) (r : Refusal) → Says 0 rows r → (i : ℕ) → FirstToHold rows i → leftAfter r ran work cone ≡ turnedAway (leftAfter r ran work cone .answer .ending) work cone
-  unchanged-by ran Accepted s i f = absurd (true≢false (sym (f .holds) ∙ s i))
-  unchanged-by ran (Refused x) s i f = refl
+  unchanged-by : (ran : Left) (r : First Ending) → Says numberOf 0 rows r → (i : ℕ) → FirstToHold rows i → leftAfter (asRefusal r) ran work cone ≡ turnedAway (leftAfter (asRefusal r) ran work cone .answer .ending) work cone
+  unchanged-by ran none-applies s i f = absurd (true≢false (sym (f .holds) ∙ s i))
+  unchanged-by ran (applies x) s i f = refl
+
+  solved-is : solved p work cone ≡ leftAfter (asRefusal (firstOf rows)) (leftBy (readProblem p) work cone (run (readProblem p))) work cone
+  unfolding solved
+  solved-is = rw (refusal-is p (length work) (length cone))
 
   pub turned-away-exactly : TurnedAwayExactly p work cone
-  unfolding solved
   turned-away-exactly =
       let ran = leftBy (readProblem p) work cone (run (readProblem p)) in
-      let r = refusal p (length work) (length cone) in
-      let number : numberOf (leftAfter r ran work cone .answer .ending) ≡ numberGiven (firstOf rows) = number-given ran (ran-unnumbered p work cone) r ∙ ap numberGiven (refusal-is p (length work) (length cone)) in
+      let table = table-given p (length work) (length cone) in
+      let number : numberOf (solved p work cone .answer .ending) ≡ numberGiven numberOf (firstOf rows) = rw solved-is (number-given ran (ran-unnumbered p work cone) (firstOf rows)) in
       record {
-        exactly = λ i h.
-            let g = table-given p (length work) (length cone) .refuses i h in
-            (λ e. g .0 (sym number ∙ e), λ f. number ∙ g .1 f);
-        none-otherwise = λ n. number ∙ ap numberGiven (table-given p (length work) (length cone) .accepts .1 n);
-        changes-nothing = unchanged-by ran r (rw (refusal-is p (length work) (length cone)) (says 0 rows (numbered p (length work) (length cone))));
+        exactly = λ i h. (λ e. table .refuses i h .0 (sym number ∙ e), λ f. number ∙ table .refuses i h .1 f);
+        none-otherwise = λ n. number ∙ ap (numberGiven numberOf) (table .accepts .1 n);
+        changes-nothing = λ i f. rw solved-is (unchanged-by ran (firstOf rows) (says numberOf 0 rows (numbered p (length work) (length cone))) i f);
       }
 
 -- ---- the contract

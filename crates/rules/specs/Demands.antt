@@ -22,44 +22,42 @@ use Rattle.rules.specs.Prepare.{prepared, preparedNorms, zeros}
 use Rattle.rules.specs.declared.Verdict.{Verdict}
 use Rattle.rules.specs.declared.Verdict.the-variants.{Ends, GoesOn}
 use Rattle.rules.specs.Run.{Turn, turn, verdict, allowance, stateFrom, Piece, Ended, isConeFailure, laidOut, solutionX, solutionY}
-use Rattle.rules.specs.declared.Refusal.{Refusal}
-use Rattle.rules.specs.declared.Refusal.the-variants.{Accepted, Refused}
-use Rattle.rules.specs.Outcome.{Solution, times-1/tau, unscaled, all-zero, turned-away, ends, onPaper}
+use Rattle.rules.specs.Outcome.{Solution, times-1/tau, unscaled, all-zero, ends, onPaper}
 use Rattle.rules.specs.Helpers.{reciprocal}
 use Rattle.rules.specs.Vectors.{scaled}
-use Rattle.rules.specs.Refusals.{Fact, _when_, facts, firstOf, numberOf, readProblem, solved, turnedAway}
+use Rattle.rules.specs.Refusals.{Fact, _when_, First, none-applies, applies, firstOf, facts, numberOf, readProblem, solved, turnedAway}
 
 -- ---- demand 1
 
--- whether row i of a list of facts holds, counted from 1
-abbrev pub holdsAt : List Fact → ℕ → Bool
+-- whether row i of a table of refusals holds, counted from 1
+abbrev pub holdsAt : {R : Type 0} → List (Fact R) → ℕ → Bool
 holdsAt rows zero = false
 holdsAt [] (suc i) = false
-holdsAt ((e when holds) ∷ rows) (suc zero) = holds
+holdsAt ((r when holds) ∷ rows) (suc zero) = holds
 holdsAt (row ∷ rows) (suc (suc i)) = holdsAt rows (suc i)
 
-abbrev pub NoneHolds : List Fact → Type 0
+abbrev pub NoneHolds : {R : Type 0} → List (Fact R) → Type 0
 NoneHolds rows = (i : ℕ) → holdsAt rows i ≡ false
 
 -- fact i holds, and none before it
-pub record FirstToHold (rows : List Fact) (i : ℕ) : Type 0 where
+pub record FirstToHold {R : Type 0} (rows : List (Fact R)) (i : ℕ) : Type 0 where
   pub holds : holdsAt rows i ≡ true
   pub none-before : (j : ℕ) → j < i → holdsAt rows j ≡ false
 
--- the refusals of a list have the numbers k, k + 1, .. on paper
-abbrev pub NumberedFrom : ℕ → List Fact → Type 0
-NumberedFrom k [] = Unit
-NumberedFrom k ((e when holds) ∷ rows) = (onPaper e ≡ turned-away k) × NumberedFrom (suc k) rows
+-- the refusals of a table have the numbers k, k + 1, ..
+abbrev pub NumberedFrom : {R : Type 0} → (R → ℕ) → ℕ → List (Fact R) → Type 0
+NumberedFrom number k [] = Unit
+NumberedFrom number k ((r when holds) ∷ rows) = (number r ≡ k) × NumberedFrom number (suc k) rows
 
 -- the number that is answered, 0 where none is
-abbrev pub numberGiven : Refusal → ℕ
-numberGiven Accepted = 0
-numberGiven (Refused e) = numberOf e
+abbrev pub numberGiven : {R : Type 0} → (R → ℕ) → First R → ℕ
+numberGiven number none-applies = 0
+numberGiven number (applies r) = number r
 
--- of any list of facts: refusal i is given exactly when fact i is the first to hold, and none exactly when none holds
-pub record GivenExactly (rows : List Fact) : Type 0 where
-  pub refuses : (i : ℕ) → 1 ≤ i → (numberGiven (firstOf rows) ≡ i) ↔ FirstToHold rows i
-  pub accepts : (firstOf rows ≡ Accepted) ↔ NoneHolds rows
+-- of any table: refusal i is given exactly when fact i is the first to hold, and none exactly when none holds
+pub record GivenExactly {R : Type 0} (number : R → ℕ) (rows : List (Fact R)) : Type 0 where
+  pub refuses : (i : ℕ) → 1 ≤ i → (numberGiven number (firstOf rows) ≡ i) ↔ FirstToHold rows i
+  pub accepts : (firstOf rows ≡ none-applies) ↔ NoneHolds rows
 
 -- "A refusal has its number, is given exactly when its fact is the first in document 01 to hold, and changes no buffer."
 pub record TurnedAwayExactly (p : Problem) (work cone : List Float) : Type 0 where

@@ -92,12 +92,22 @@ workShortage p work cone = shortBuffers (readProblem p .m) (readProblem p .n) (r
 
 -- ---- the table
 
--- A row: the refusal, and whether its fact holds.
-pub data Fact : Type 0 where
-  _when_ : Ending → Bool → Fact
+-- A row of a table of refusals: the refusal, and whether its fact holds.
+pub data Fact (R : Type 0) : Type 0 where
+  _when_ : R → Bool → Fact R
 
 infix 75 _when_
-abbrev pub facts : Problem → ℕ → ℕ → List Fact
+-- "the first that applies answers, and none is given otherwise": of any such table
+pub data First (R : Type 0) : Type 0 where
+  none-applies : First R
+  applies : R → First R
+
+unfoldable pub firstOf : {R : Type 0} → List (Fact R) → First R
+firstOf [] = none-applies
+firstOf ((r when holds) ∷ rows) = cond holds (applies r) (firstOf rows)
+
+-- "Tests run in this order"
+abbrev pub facts : Problem → ℕ → ℕ → List (Fact Ending)
 facts p work cone =
     (BadParam when badParam (p .par))
     ∷ (TooLarge when tooLarge p)
@@ -107,14 +117,13 @@ facts p work cone =
     ∷ (WorkShortage when workShortage p work cone)
     ∷ []
 
--- "the first that applies answers, and none is given otherwise": of any list of facts
-unfoldable pub firstOf : List Fact → Refusal
-firstOf [] = Accepted
-firstOf ((e when holds) ∷ rows) = cond holds (Refused e) (firstOf rows)
+abbrev pub asRefusal : First Ending → Refusal
+asRefusal none-applies = Accepted
+asRefusal (applies e) = Refused e
 
 unfoldable pub refusal : Problem → ℕ → ℕ → Refusal
 unfolding firstOf badParam tooLarge invalidOp badCone notFinite workShortage
-refusal p work cone = firstOf (facts p work cone)
+refusal p work cone = asRefusal (firstOf (facts p work cone))
 
 -- the number of a refusal on paper; an ending of a run has none
 abbrev pub refusalOn : OnPaper → ℕ

@@ -138,8 +138,10 @@ fn is_rotated(n: usize, tol: f64, i: usize, j: usize, x: &[f64]) -> bool
     ensures { λ r. ⌜ r ≡ isRotated n tol i j (now (x .entry)) ⌝ }
 {
     let m = read_corners(n, i, j, x);
-    let dd = m.d * m.d;
-    dd > tol * m.a * m.b && dd > tol
+    let a = m.a;
+    let b = m.b;
+    let d = m.d;
+    d * d > tol * a * b && d * d > tol
 }
 
 // One pair. This and the next two take the rotations that were made before, and return those made so far.

@@ -1,6 +1,6 @@
 -- `cone::proj_reflected` meets its contract.
 use native.Mathlib.Omega.{arith}
-use Rattle.rules.proofs.Projections.{rotated-outside, rotated-inside}
+use Rattle.cone.proofs.Reflected.{outside-is, inside-is}
 use borrow.Author.Needs.{needs}
 use Rattle.cone.proofs.proj_reflected.Statement.{statement}
 use Rattle.cone.proofs.proj_reflected.Tie as tie
@@ -30,13 +30,15 @@ same-length : tie.Need-same-length
 same-length c = search needs
 
 returns : tie.Need-returns
-returns c = rotated-inside _ (c .before .before .before .before .before .before .before .before .before .before .before .before .before .before .before .before .before .pre) (rw (c .before .before .before .before .before .before .before .before .before .before .before .before .before .root-two .ensures) at (c .before .before .before .before .before .before .before .before .before .before .before .put-two .ensures)) (c .before .before .before .before .before .before .before .proj-soc .ensures .0) (c .before .before .before .before .before .before .before .proj-soc .ensures .1 (c .before .before .before .before .if1 .taken)) (rw (c .before .before .before .before .before .before .before .before .before .before .before .before .before .root-two .ensures) at (c .before .before .put-two2 .ensures))
+returns c =
+    inside-is _ _ (c .before .before .before .before .before .before .before .before .before .before .before .before .before .root-two .ensures) (c .before .before .before .before .before .before .before .before .before .before .before .before .before .before .before .before .before .pre) (c .before .before .before .before .before .before .before .before .before .before .before .put-two .ensures) (c .before .before .before .before .before .before .before .proj-soc .ensures .0) (c .before .before .before .before .before .before .before .proj-soc .ensures .1 (c .before .before .before .before .if1 .taken)) (c .before .before .put-two2 .ensures)
 
 same-length-2 : tie.Need-same-length-2
 same-length-2 c = search needs
 
 returns-2 : tie.Need-returns-2
-returns-2 c = rotated-outside _ (c .before .before .before .before .before .before .before .before .before .before .before .before .before .before .before .before .before .pre) (rw (c .before .before .before .before .before .before .before .before .before .before .before .before .before .root-two .ensures) at (c .before .before .before .before .before .before .before .before .before .before .before .put-two .ensures)) (c .before .before .before .before .before .before .before .proj-soc .ensures .0) (c .before .before .reflect .ensures)
+returns-2 c =
+    outside-is _ _ (c .before .before .before .before .before .before .before .before .before .before .before .before .before .root-two .ensures) (c .before .before .before .before .before .before .before .before .before .before .before .before .before .before .before .before .before .pre) (c .before .before .before .before .before .before .before .before .before .before .before .put-two .ensures) (c .before .before .before .before .before .before .before .proj-soc .ensures .0) (c .before .before .reflect .ensures)
 
 pub proj-reflected-spec : {M : Type 1} → statement M
 proj-reflected-spec =

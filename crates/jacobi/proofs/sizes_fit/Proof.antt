@@ -1,5 +1,6 @@
 -- `jacobi::sizes_fit` meets its contract.
 use native.Mathlib.Omega.{arith}
+use Prim.Native.Nat.{_*_}
 use mathlib.Core.Path.{_≡_, sym, _∙_}
 use Rattle.rules.specs.Matrices.{triangle}
 use borrow.Author.Tests.{eq-eqb, ne-eqb, le-leb, lt-leb}
@@ -25,13 +26,17 @@ mul-if3 : tie.Need-mul-if3
 mul-if3 c = omega (arith, square-small (c .before .before .before .args .n) (c .before .before .if1 .left))
 
 returns-3 : tie.Need-returns-3
-returns-3 c = rw (le-leb _ _ (c .before .before .before .if1 .left), eq-eqb _ _ (c .before .if2 .left ∙ is (c .before .before)), ne-eqb _ _ (c .if3 .taken))
+returns-3 c =
+    let a = c .before .before .before .before .args in
+    rw (le-leb _ _ (c .before .before .before .if1 .left), eq-eqb _ _ (c .before .if2 .left ∙ is (c .before .before)), ne-eqb (a .z) (a .n * a .n) (λ e. omega (arith, c .if3 .taken)))
 
 sweeps-fit-requires : tie.Need-sweeps-fit-requires
 sweeps-fit-requires c κs = search needs
 
 returns-4 : tie.Need-returns-4
-returns-4 c = rw (le-leb _ _ (c .before .before .before .before .if1 .left), eq-eqb _ _ (c .before .before .if2 .left ∙ is (c .before .before .before)), eq-eqb _ _ (c .before .if3 .left)) (c .sweeps-fit .ensures)
+returns-4 c =
+    let a = c .before .before .before .before .before .args in
+    rw (le-leb _ _ (c .before .before .before .before .if1 .left), eq-eqb _ _ (c .before .before .if2 .left ∙ is (c .before .before .before)), eq-eqb (a .z) (a .n * a .n) (omega (arith, c .before .if3 .left))) (c .sweeps-fit .ensures)
 
 pub sizes-fit-spec : {M : Type 1} → statement M
 sizes-fit-spec =

@@ -14,8 +14,8 @@ pub record Grown (at : ℕ) (before part : List ℕ) (count : ℕ) (after : List
 -- the n and m of what is told
 abbrev pub columnsOf : Told → ℕ
 columnsOf (Fault f) = 0
-columnsOf (Answered n m e k q) = n
+columnsOf (Answered rows cols e k q) = cols .0
 
 abbrev pub rowsOf : Told → ℕ
 rowsOf (Fault f) = 0
-rowsOf (Answered n m e k q) = m
+rowsOf (Answered rows cols e k q) = rows .0

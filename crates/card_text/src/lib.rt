@@ -5,9 +5,7 @@ mod lines;
 use card_answer::Told;
 use lines::put_ended;
 use lines::put_numbered;
-use rules::Cols;
 use rules::Ending;
-use rules::Rows;
 ghost use Prim.Native.Nat.{_≤_};
 ghost use lib.ListN.{length};
 ghost use Rattle.io.specs.Counts.{Counts};
@@ -60,14 +58,14 @@ fn put_told(text: &mut [u8], told: Told, work: &[f64]) -> usize
 {
     match told {
         Told::Fault(number) => put_numbered(text, b"Card ", number as u64),
-        Told::Answered(n, m, ending, steps, rotations) => {
+        Told::Answered(rows, cols, ending, steps, rotations) => {
             put_answer(
                 text,
                 ending,
                 steps,
                 rotations,
-                solution::solution_x(work, Cols(n)),
-                solution::solution_y(work, Rows(m), Cols(n)),
+                solution::solution_x(work, cols),
+                solution::solution_y(work, rows, cols),
             )
         }
     }

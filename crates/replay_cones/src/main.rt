@@ -8,7 +8,6 @@ mod semidefinite;
 use libc::STDOUT_FILENO;
 use operations::Found;
 use replay::lines;
-use replay::tally;
 
 // One more than the largest number of an operation.
 const OPERATIONS: usize = 8;

@@ -5,9 +5,9 @@ use crate::room;
 use crate::semidefinite;
 use replay::record;
 use rules::Cone;
+use rules::MOST_WORDS;
 use rules::Product;
 use rules::SolverParam;
-use rules::MOST_WORDS;
 ghost use Prim.Native.Nat.{_≤_};
 
 pub enum Found {

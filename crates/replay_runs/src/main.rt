@@ -8,7 +8,6 @@ mod runs;
 
 use libc::STDOUT_FILENO;
 use replay::lines;
-use replay::tally;
 use room::A_ROOM;
 use runs::Found;
 

@@ -2,8 +2,6 @@
 // input holds the number of records and then the records, as compare/README.md says. Each answer is
 // had again from this repository's routines and held to the list.
 mod operations;
-mod room;
-mod routines;
 
 use libc::STDOUT_FILENO;
 use operations::Found;

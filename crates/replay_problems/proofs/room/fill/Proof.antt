@@ -1,10 +1,10 @@
--- `replay_runs::room::fill` is safe and ends: the measure is the places that are left, and their number stays.
+-- `replay_problems::room::fill` is safe and ends: the measure is the places that are left, and their number stays.
 use borrow.Author.Needs.{needs}
 use Prim.Native.Nat.{_-_, _≤_}
 use mathlib.Core.Path.{_≡_}
 use lib.ListN.{length}
-use Rattle.replay_runs.proofs.room.fill.Statement.{statement}
-use Rattle.replay_runs.proofs.room.fill.Tie as tie
+use Rattle.replay_problems.proofs.room.fill.Statement.{statement}
+use Rattle.replay_problems.proofs.room.fill.Tie as tie
 
 abbrev Inv-loop : tie.InvT-loop
 Inv-loop «record» numbers₀ at given k₀ i₀ i-end numbers k i = (i ≤ length numbers₀) × (i-end ≡ length numbers₀) × (length numbers ≡ length numbers₀)

@@ -1,10 +1,10 @@
--- `replay_runs::answers::are_same` is safe and ends: the measure is the numbers that are left.
+-- `replay_answers::are_same` is safe and ends: the measure is the numbers that are left.
 use borrow.Author.Needs.{needs}
 use Prim.Native.Nat.{_-_, _≤_}
 use mathlib.Core.Path.{_≡_}
 use lib.ListN.{length}
-use Rattle.replay_runs.proofs.answers.are_same.Statement.{statement}
-use Rattle.replay_runs.proofs.answers.are_same.Tie as tie
+use Rattle.replay_answers.proofs.are_same.Statement.{statement}
+use Rattle.replay_answers.proofs.are_same.Tie as tie
 
 abbrev Inv-loop : tie.InvT-loop
 Inv-loop part whole start i₀ i-end i = (i ≤ length part) × (i-end ≡ length part)

@@ -1,5 +1,4 @@
 // A record's problem, run and compared.
-use crate::answers;
 use crate::room;
 use crate::room::Vector;
 use replay::record;
@@ -157,11 +156,11 @@ fn agrees(
         cone_work,
     );
     let ending = answer.ending;
-    if !answers::is_told(record, answer_at, ending, answer.steps, answer.rotations) {
+    if !replay_answers::is_told(record, answer_at, ending, answer.steps, answer.rotations) {
         return false;
     }
-    if !answers::is_left(record, answer_at, before, work, cone_work) {
+    if !replay_answers::is_left(record, answer_at, before, work, cone_work) {
         return false;
     }
-    answers::has_parts(work, rows, cols)
+    replay_answers::has_parts(work, rows, cols)
 }

@@ -4,7 +4,6 @@ use replay::record;
 use rules::Cols;
 use rules::MatType;
 use rules::Rows;
-ghost use Prim.Native.Nat.{_≤_};
 
 pub enum Routine {
     Copy,
@@ -68,9 +67,10 @@ fn fits_and_not(routine: Routine, first: &[f64], second: &[f64], y: &mut [f64], 
 // turns a y down that is one place too long, and leaves it as it is. The numbers start at a place of
 // the record: the matrix, or x where there is none; x, of the width; y, of the height; the answer.
 // The first of these is what the others leave of the record, and the routine says whether it fits.
-pub fn agrees(routine: Routine, record: &[u8], start: usize, width: usize, height: usize) -> bool
-    requires { ⌜ start ≤ 5 ⌝ }
-{
+pub fn agrees(routine: Routine, record: &[u8], start: usize, width: usize, height: usize) -> bool {
+    if start > 5 {
+        return false;
+    }
     if width > room::ROOM {
         return false;
     }

@@ -13,14 +13,14 @@ pub const CONE_ROOM: usize = 600;
 pub const WORD_ROOM: usize = 40;
 
 // A vector in a record: number k of its length is the one at k mod given after its place.
-pub struct Vector {
-    pub length: usize,
-    pub given: usize,
-    pub at: usize,
+pub(crate) struct Vector {
+    pub(crate) length: usize,
+    pub(crate) given: usize,
+    pub(crate) at: usize,
 }
 
 // The vector whose length stands at a place.
-pub fn vector_at(record: &[u8], at: usize) -> Vector {
+pub(crate) fn vector_at(record: &[u8], at: usize) -> Vector {
     Vector {
         length: record::size(record, at),
         given: record::size(record, std::num::wrapping_add_usize(at, 1)),
@@ -29,12 +29,12 @@ pub fn vector_at(record: &[u8], at: usize) -> Vector {
 }
 
 // The place after a vector.
-pub fn after(v: Vector) -> usize {
+pub(crate) fn after(v: Vector) -> usize {
     std::num::wrapping_add_usize(v.at, v.given)
 }
 
 // The numbers of a vector, and +0 after them.
-pub fn numbers(record: &[u8], v: Vector) -> [f64; ROOM] {
+pub(crate) fn numbers(record: &[u8], v: Vector) -> [f64; ROOM] {
     let mut numbers = [0.0; ROOM];
     let length = v.length;
     if length <= ROOM {
@@ -43,7 +43,7 @@ pub fn numbers(record: &[u8], v: Vector) -> [f64; ROOM] {
     numbers
 }
 
-pub fn fill(record: &[u8], v: Vector, numbers: &mut [f64]) {
+pub(crate) fn fill(record: &[u8], v: Vector, numbers: &mut [f64]) {
     let at = v.at;
     let given = v.given;
     let mut k: usize = 0;
@@ -57,7 +57,7 @@ pub fn fill(record: &[u8], v: Vector, numbers: &mut [f64]) {
 }
 
 // The n cone words from a place on, and 0 after them.
-pub fn cone_words(record: &[u8], at: usize, n: usize) -> [u16; WORD_ROOM] {
+pub(crate) fn cone_words(record: &[u8], at: usize, n: usize) -> [u16; WORD_ROOM] {
     let mut words = [0u16; WORD_ROOM];
     if n <= WORD_ROOM {
         record::fill_words(record, at, &mut words[0..n]);

@@ -96,7 +96,7 @@ AnswerText (ConeFailure b) k q x y = Ended coneFailure k q x y
 -- what is told, as text
 abbrev pub ToldText : Told → List Float → List ℕ → Type 0
 ToldText (Fault f) work = Numbered card f
-ToldText (Answered n m e k q) work = AnswerText e k q (solutionX n work) (solutionY m n work)
+ToldText (Answered rows cols e k q) work = AnswerText e k q (solutionX (cols .0) work) (solutionY (rows .0) (cols .0) work)
 
 -- "The program writes .." for a card that is read so: what is told of it over zeroed work
 abbrev pub CardText : Reading → List ℕ → Type 0

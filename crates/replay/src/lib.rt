@@ -1,5 +1,4 @@
-// What the programs that replay a list share: a record's words, comparing patterns, counts, and the
-// lines that they write.
+// What the programs that replay a list share: a record's words, comparing patterns, and the lines that
+// they write.
 pub mod lines;
 pub mod record;
-pub mod tally;

@@ -1,9 +1,9 @@
 // The operations of the list, by their numbers: whether a record's answer is this repository's too.
 // Each routine is then asked again with one place too many, or too few, and has to turn that down
 // and leave everything as it is.
-use crate::room;
-use crate::semidefinite;
 use replay::record;
+use replay_semidefinite::room;
+use replay_semidefinite::semidefinite;
 use rules::Cone;
 use rules::MOST_WORDS;
 use rules::Product;

@@ -1,8 +1,8 @@
 // The operations of the list, by their numbers: whether a record's answer is this repository's too.
-use crate::room;
-use crate::routines;
-use crate::routines::Routine;
 use replay::record;
+use replay_routines::room;
+use replay_routines::routines;
+use replay_routines::routines::Routine;
 use rules::Cols;
 use rules::MatType;
 use rules::Rows;

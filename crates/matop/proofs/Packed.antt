@@ -14,7 +14,7 @@ use Rattle.rules.specs.declared.Rows.{Rows}
 use Rattle.rules.specs.Helpers.{magnitude}
 use Rattle.rules.specs.Arithmetic.{_+ᶠ_, +0, at, sumTo, each, eachTo}
 use Rattle.rules.specs.Matrices.{triangle, entry, colSum, packedSum, absaddedCols}
-use Rattle.rules.proofs.Arithmetic.{sum-none, sum-turn, sum-same, eachTo-length, eachTo-later, eachTo-at, each-length, each-at, each-is, each-same}
+use Rattle.rules.proofs.Arithmetic.{sum-none, sum-more, sum-same, eachTo-length, eachTo-later, eachTo-at, each-length, each-at, each-is, each-same}
 use Rattle.rules.proofs.Columns.{inPacked-at}
 use Rattle.matop.specs.Columns.{columnAdded}
 
@@ -59,7 +59,7 @@ module _ (rows : Rows) (mat : List Float) where
   row-goes-on c i v h =
       let more : c + 1 - suc i ≡ c - suc i + 1 = omega arith in
       let last : suc i + (c - suc i) ≡ c = omega arith in
-      rw (more, ← inPacked-at (rows .0) mat i c (omega arith)) (ap (λ (k : ℕ). start +ᶠ magnitude (entry (SymPack rows) mat i k)) (sym last) ∙ sum-turn (colSum (entry (SymPack rows) mat) (suc i) i +ᶠ v) (λ k. magnitude (entry (SymPack rows) mat i (suc i + k))) (c - suc i))
+      rw (more, ← inPacked-at (rows .0) mat i c (omega arith)) (ap (λ (k : ℕ). start +ᶠ magnitude (entry (SymPack rows) mat i k)) (sym last) ∙ sum-more (colSum (entry (SymPack rows) mat) (suc i) i +ᶠ v) (λ k. magnitude (entry (SymPack rows) mat i (suc i + k))) (c - suc i))
     where
       start : Float
       start = packedSum (entry (SymPack rows) mat) c i v

@@ -5,6 +5,8 @@ use replay::record;
 use rules::Cols;
 use rules::Ending;
 use rules::Rows;
+ghost use mathlib.Core.Path.{_≡_};
+ghost use Rattle.replay_answers.specs.Numbers.{numberInLists};
 
 // The number of an answer whose places of work are left out, since all are +0.
 const CONE_FAILURE: u64 = 12;
@@ -13,8 +15,10 @@ fn after(at: usize, places: usize) -> usize {
     std::num::wrapping_add_usize(at, places)
 }
 
-// The number of an ending: document 01's of a refusal, then those of a run.
-pub fn number_of(ending: Ending) -> u64 {
+// The number of an answer in the lists: document 01's of a refusal, then those of a run.
+pub fn number_of(ending: Ending) -> u64
+    ensures { λ r. ⌜ r ≡ numberInLists ending ⌝ }
+{
     match ending {
         Ending::BadParam => 1,
         Ending::TooLarge => 2,

@@ -17,7 +17,7 @@ use Rattle.rules.specs.Criteria.{judged, tauOf}
 use Rattle.rules.specs.declared.Norms.{Norms}
 use Rattle.rules.specs.Prepare.{preparedNorms}
 use Rattle.rules.specs.declared.Verdict.the-variants.{Ends, GoesOn}
-use Rattle.rules.specs.Run.{turn, verdict, allowance, run}
+use Rattle.rules.specs.Run.{wholeStep, verdict, allowance, run}
 use Rattle.rules.specs.Demands.{stepFrom, stateAfter, step, ConvergedTest, ConvergedExactly}
 use Rattle.rules.proofs.Run.{ends-first}
 
@@ -78,13 +78,13 @@ tau-is-above p ns x rx pri dual gap h = go (lt (p .par .«eps_zero») (tauOf (em
     go true e = refl
     go false e = not-both (rw e at h)
 
-turn-above : (p : Problem) (ns : Norms) (s : State) (pri dual gap : Float) → turn p ns s .criteria ≡ Conv pri dual gap → lt (p .par .«eps_zero») (tauOf (embed p) (turn p ns s .state .x)) ≡ true
-unfolding turn
-turn-above p ns s pri dual gap h = tau-is-above p ns (updated p s .state .x) (updated p s .state .rx) pri dual gap h
+whole-step-above : (p : Problem) (ns : Norms) (s : State) (pri dual gap : Float) → wholeStep p ns s .criteria ≡ Conv pri dual gap → lt (p .par .«eps_zero») (tauOf (embed p) (wholeStep p ns s .state .x)) ≡ true
+unfolding wholeStep
+whole-step-above p ns s pri dual gap h = tau-is-above p ns (updated p s .state .x) (updated p s .state .rx) pri dual gap h
 
 step-above : (p : Problem) (k : ℕ) (pri dual gap : Float) → step p k .criteria ≡ Conv pri dual gap → lt (p .par .«eps_zero») (tauOf (embed p) (step p k .state .x)) ≡ true
 unfolding stepFrom
-step-above p k pri dual gap h = turn-above p (preparedNorms p) (stateAfter p (k - 1)) pri dual gap h
+step-above p k pri dual gap h = whole-step-above p (preparedNorms p) (stateAfter p (k - 1)) pri dual gap h
 
 -- ---- the run
 

@@ -18,7 +18,7 @@ use Rattle.rules.specs.Step.{State, part, aOp, aTrans, bOp, cOp, cTrans,
 use Rattle.rules.specs.Criteria.{tauOf, withResiduals, primalResidual, dualResidual, ray, dualRay, judged}
 use Rattle.rules.specs.declared.Norms.{Norms}
 use Rattle.rules.specs.Prepare.{zeros, diagonal, columnIn, withB, withC, startX, sumsX, sumsY, sumsS, sumsTau, groupedX, dpTauOf, dpSigmaOf, prepared, preparedNorms}
-use Rattle.rules.specs.Run.{turn, stateFrom, run}
+use Rattle.rules.specs.Run.{wholeStep, stateFrom, run}
 use Rattle.rules.specs.Demands.{stateAfter}
 use Rattle.rules.proofs.KernelLengths.{scaled-length, added-length, shifted-length, transformedDi-length, diagonal-length, opped-length, transOpped-length, absaddedCols-length, absaddedRows-length, groupAll-length, PassKeeps, pass-keeps}
 use Rattle.rules.proofs.Parts.{part-length}
@@ -257,9 +257,9 @@ judged-length k eps ns x rx h l = go (lt eps (tauOf k x)) refl
 
 -- ---- a whole step
 
-pub turn-sized : (p : Problem) (ns : Norms) (s : State) → Fitting p → Sized p s → Sized p (turn p ns s .state)
-unfolding turn
-turn-sized p ns s fit h =
+pub whole-step-sized : (p : Problem) (ns : Norms) (s : State) → Fitting p → Sized p s → Sized p (wholeStep p ns s .state)
+unfolding wholeStep
+whole-step-sized p ns s fit h =
     let v = updated p s .state in
     let k : Sized p v = updated-sized p s fit h in
     record {
@@ -373,7 +373,7 @@ prepared-sized p =
 pub sized-from : (p : Problem) (ns : Norms) (s : State) → Fitting p → Sized p s → (k : ℕ) → Sized p (stateFrom p ns s k)
 unfolding stateFrom
 sized-from p ns s fit h zero = h
-sized-from p ns s fit h (suc k) = turn-sized p ns (stateFrom p ns s k) fit (sized-from p ns s fit h k)
+sized-from p ns s fit h (suc k) = whole-step-sized p ns (stateFrom p ns s k) fit (sized-from p ns s fit h k)
 
 pub states-sized : (p : Problem) → Fitting p → (k : ℕ) → Sized p (stateAfter p k)
 states-sized p fit k = sized-from p (preparedNorms p) (prepared p) fit (prepared-sized p) k

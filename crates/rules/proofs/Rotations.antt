@@ -18,7 +18,7 @@ use Rattle.rules.specs.Problem.{Problem, embed, blocks}
 use Rattle.rules.specs.Step.{State, movedX, projected, updated, xX, xY, xS}
 use Rattle.rules.specs.declared.Norms.{Norms}
 use Rattle.rules.specs.Prepare.{prepared, preparedNorms}
-use Rattle.rules.specs.Run.{turn, stateFrom, run}
+use Rattle.rules.specs.Run.{wholeStep, stateFrom, run}
 use Rattle.rules.specs.Demands.{stepFrom, rotationsFrom, pairsTwice, allPairsTwice, RotationsBounded}
 use Rattle.rules.proofs.Jacobi.{rotations-bounded}
 use Rattle.rules.proofs.KernelLengths.{swept}
@@ -88,9 +88,9 @@ projected-bounded p x cone = go (isNone (first .failure)) refl
     go true e = rw e (omega (arith, one, two))
     go false e = rw e (omega (arith, one))
 
-turn-bounded : (p : Problem) (ns : Norms) (s : State) → turn p ns s .rotations ≤ p .par .«sweep_limit» * allPairsTwice (blocks p)
-unfolding turn updated
-turn-bounded p ns s = projected-bounded p (movedX p s .x) (movedX p s .cone)
+whole-step-bounded : (p : Problem) (ns : Norms) (s : State) → wholeStep p ns s .rotations ≤ p .par .«sweep_limit» * allPairsTwice (blocks p)
+unfolding wholeStep updated
+whole-step-bounded p ns s = projected-bounded p (movedX p s .x) (movedX p s .cone)
 
 -- ---- steps from any state, and a run
 
@@ -99,7 +99,7 @@ unfolding rotationsFrom stepFrom
 steps-bounded p ns s zero = omega arith
 steps-bounded p ns s (suc k) =
     let most = p .par .«sweep_limit» * allPairsTwice (blocks p) in
-    omega (arith, steps-bounded p ns s k, turn-bounded p ns (stateFrom p ns s (suc k - 1)), suc-mul k most)
+    omega (arith, steps-bounded p ns s k, whole-step-bounded p ns (stateFrom p ns s (suc k - 1)), suc-mul k most)
 
 pub run-bounded : (p : Problem) → RotationsBounded p (run p)
 run-bounded p = omega (arith, ends-first p .counts, steps-bounded p (preparedNorms p) (prepared p) (run p .steps))

@@ -19,7 +19,7 @@ use Rattle.rules.specs.declared.Norms.{Norms}
 use Rattle.rules.specs.Prepare.{prepared, preparedNorms}
 use Rattle.rules.specs.declared.Verdict.{Verdict}
 use Rattle.rules.specs.declared.Verdict.the-variants.{Ends, GoesOn}
-use Rattle.rules.specs.Run.{Turn, turn, verdict, allowance, stateFrom, Piece, goingOn, pieceFrom, takenUp, Ended, endedBy, finished, runFrom, run}
+use Rattle.rules.specs.Run.{WholeStep, wholeStep, verdict, allowance, stateFrom, Piece, goingOn, pieceFrom, takenUp, Ended, endedBy, finished, runFrom, run}
 use Rattle.rules.specs.Demands.{stepFrom, verdictFrom, rotationsFrom, GoesByTheRules, stateAfter, step, verdictAt, rotationsUpTo, EndsFirst, endingTest, GoesOnExactly}
 use Rattle.rules.proofs.Columns.{by-less}
 
@@ -60,7 +60,7 @@ goes-on-exactly p k none (Inf unbdd infeas) =
 
 -- ---- a piece, from any state
 
-pub step-from : (p : Problem) (ns : Norms) (s : State) (j : ℕ) → stepFrom p ns s (suc j) ≡ turn p ns (stateFrom p ns s j)
+pub step-from : (p : Problem) (ns : Norms) (s : State) (j : ℕ) → stepFrom p ns s (suc j) ≡ wholeStep p ns (stateFrom p ns s j)
 unfolding stepFrom
 step-from p ns s j =
     let e : suc j - 1 ≡ j = omega arith in
@@ -82,7 +82,7 @@ no-steps : (p : Problem) (ns : Norms) (s : State) → stateFrom p ns s 0 ≡ s
 unfolding stateFrom
 no-steps p ns s = refl
 
-piece-more : (p : Problem) (ns : Norms) (more k q : ℕ) (s : State) (t : Turn) → t ≡ turn p ns s → pieceFrom (suc more) p ns k q s ≡ goingOn (verdict (p .par) (k + 1) (t .failure) (t .criteria)) (pieceFrom more p ns (k + 1) (q + t .rotations) (t .state)) (k + 1) (q + t .rotations) (t .state)
+piece-more : (p : Problem) (ns : Norms) (more k q : ℕ) (s : State) (t : WholeStep) → t ≡ wholeStep p ns s → pieceFrom (suc more) p ns k q s ≡ goingOn (verdict (p .par) (k + 1) (t .failure) (t .criteria)) (pieceFrom more p ns (k + 1) (q + t .rotations) (t .state)) (k + 1) (q + t .rotations) (t .state)
 unfolding pieceFrom
 piece-more p ns more k q s t e = rw e
 
@@ -154,10 +154,10 @@ module _ (p : Problem) (ns : Norms) (k q : ℕ) (s : State) (given : ℕ) where
 pub goes-by-the-rules : (given : ℕ) (p : Problem) (ns : Norms) (k q : ℕ) (s : State) → GoesByTheRules given p ns k q s (pieceFrom given p ns k q s)
 goes-by-the-rules given p ns k q s =
     let none-made : k + 0 ≡ k = omega arith in
-    let none-turned : q + rotationsFrom p ns s 0 ≡ q = omega (arith, no-rotations p ns s) in
-    rw (none-made, none-turned, no-steps p ns s) at (piece-from p ns k q s given given 0 (omega arith) (λ i l h. absurd (omega arith)))
+    let none-rotated : q + rotationsFrom p ns s 0 ≡ q = omega (arith, no-rotations p ns s) in
+    rw (none-made, none-rotated, no-steps p ns s) at (piece-from p ns k q s given given 0 (omega arith) (λ i l h. absurd (omega arith)))
 
-joined-more : (p : Problem) (ns : Norms) (a b k q : ℕ) (s : State) (t : Turn) → t ≡ turn p ns s → pieceFrom (a + b) p ns (k + 1) (q + t .rotations) (t .state) ≡ takenUp b p ns (pieceFrom a p ns (k + 1) (q + t .rotations) (t .state)) → pieceFrom (suc a + b) p ns k q s ≡ takenUp b p ns (pieceFrom (suc a) p ns k q s)
+joined-more : (p : Problem) (ns : Norms) (a b k q : ℕ) (s : State) (t : WholeStep) → t ≡ wholeStep p ns s → pieceFrom (a + b) p ns (k + 1) (q + t .rotations) (t .state) ≡ takenUp b p ns (pieceFrom a p ns (k + 1) (q + t .rotations) (t .state)) → pieceFrom (suc a + b) p ns k q s ≡ takenUp b p ns (pieceFrom (suc a) p ns k q s)
 joined-more p ns a b k q s t e rest =
     let more : suc a + b ≡ suc (a + b) = omega arith in
     rw (more, piece-more p ns (a + b) k q s t e, piece-more p ns a k q s t e) (go (verdict (p .par) (k + 1) (t .failure) (t .criteria)))
@@ -171,7 +171,7 @@ pub pieces-join : (a b : ℕ) (p : Problem) (ns : Norms) (k q : ℕ) (s : State)
 pieces-join zero b p ns k q s =
     let all : 0 + b ≡ b = omega arith in
     rw (all, piece-none p ns k q s)
-pieces-join (suc a) b p ns k q s = joined-more p ns a b k q s (turn p ns s) refl (pieces-join a b p ns (k + 1) (q + turn p ns s .rotations) (turn p ns s .state))
+pieces-join (suc a) b p ns k q s = joined-more p ns a b k q s (wholeStep p ns s) refl (pieces-join a b p ns (k + 1) (q + wholeStep p ns s .rotations) (wholeStep p ns s .state))
 
 -- ---- the run
 
@@ -183,7 +183,7 @@ pub run-is : (p : Problem) → run p ≡ endedBy (pieceFrom (allowance (p .par))
 unfolding run
 run-is p = run-from-is p (preparedNorms p) (allowance (p .par)) 1 0 (prepared p)
 
-pub run-more : (p : Problem) (ns : Norms) (left k q : ℕ) (s : State) (t : Turn) → 1 ≤ k → t ≡ turn p ns s → runFrom (suc left) p ns k q s ≡ finished (verdict (p .par) k (t .failure) (t .criteria)) (runFrom left p ns (k + 1) (q + t .rotations) (t .state)) k (q + t .rotations) (t .state)
+pub run-more : (p : Problem) (ns : Norms) (left k q : ℕ) (s : State) (t : WholeStep) → 1 ≤ k → t ≡ wholeStep p ns s → runFrom (suc left) p ns k q s ≡ finished (verdict (p .par) k (t .failure) (t .criteria)) (runFrom left p ns (k + 1) (q + t .rotations) (t .state)) k (q + t .rotations) (t .state)
 run-more p ns left k q s t l e = go (verdict (p .par) k (t .failure) (t .criteria)) refl
   where
     here : k - 1 + 1 ≡ k

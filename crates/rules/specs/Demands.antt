@@ -21,7 +21,7 @@ use Rattle.rules.specs.declared.Norms.{Norms}
 use Rattle.rules.specs.Prepare.{prepared, preparedNorms, zeros}
 use Rattle.rules.specs.declared.Verdict.{Verdict}
 use Rattle.rules.specs.declared.Verdict.the-variants.{Ends, GoesOn}
-use Rattle.rules.specs.Run.{Turn, turn, verdict, allowance, stateFrom, Piece, Ended, isConeFailure, laidOut, solutionX, solutionY}
+use Rattle.rules.specs.Run.{WholeStep, wholeStep, verdict, allowance, stateFrom, Piece, Ended, isConeFailure, laidOut, solutionX, solutionY}
 use Rattle.rules.specs.Outcome.{Solution, times-1/tau, unscaled, all-zero, ends, onPaper}
 use Rattle.rules.specs.Helpers.{reciprocal}
 use Rattle.rules.specs.Vectors.{scaled}
@@ -68,8 +68,8 @@ pub record TurnedAwayExactly (p : Problem) (work cone : List Float) : Type 0 whe
 -- ---- demand 3, for the problem as the run reads it: "Against 01's step rules written without stopping"
 
 -- From any state: the i-th further step, from 1, what it says when k steps were behind, and the rotations up to it.
-unfoldable pub stepFrom : Problem → Norms → State → ℕ → Turn
-stepFrom p ns s i = turn p ns (stateFrom p ns s (i - 1))
+unfoldable pub stepFrom : Problem → Norms → State → ℕ → WholeStep
+stepFrom p ns s i = wholeStep p ns (stateFrom p ns s (i - 1))
 
 abbrev pub verdictFrom : Problem → Norms → ℕ → State → ℕ → Verdict
 verdictFrom p ns k s i = verdict (p .par) (k + i) (stepFrom p ns s i .failure) (stepFrom p ns s i .criteria)
@@ -93,7 +93,7 @@ pub record GoesByTheRules (given : ℕ) (p : Problem) (ns : Norms) (k q : ℕ) (
 abbrev pub stateAfter : Problem → ℕ → State
 stateAfter p k = stateFrom p (preparedNorms p) (prepared p) k
 
-abbrev pub step : Problem → ℕ → Turn
+abbrev pub step : Problem → ℕ → WholeStep
 step p k = stepFrom p (preparedNorms p) (prepared p) k
 
 abbrev pub tauAfter : Problem → ℕ → Float
@@ -124,7 +124,7 @@ pub record GoesOnExactly (p : Problem) (k : ℕ) (failure : Failure) (criteria :
   pub exactly : (verdict (p .par) k failure criteria ≡ GoesOn) ↔ ((failure ≡ none) × (endingTest p criteria ≡ false) × (k < allowance (p .par)))
 
 -- "Converged is answered exactly when at step k no cone failed, tau > eps_zero and all three criteria are at most eps_acc."
-pub record ConvergedTest (p : Problem) (t : Turn) (pri dual gap : Float) : Type 0 where
+pub record ConvergedTest (p : Problem) (t : WholeStep) (pri dual gap : Float) : Type 0 where
   pub no-cone-failed : t .failure ≡ none
   pub tau-above : lt (p .par .«eps_zero») (tauOf (embed p) (t .state .x)) ≡ true
   pub criteria-are : t .criteria ≡ Conv pri dual gap

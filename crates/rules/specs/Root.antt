@@ -5,7 +5,7 @@ use mathlib.Core.Bool.{Bool, true, false, not, cond}
 use lib.Dec.{T, leb}
 use lib.Ieee.{Float, nan, inf, fin, Format, prec, low, up, down, size, nearest, units, fits}
 
--- The largest r with r * r at most n, one binary digit a turn: n is below 4 ^ d.
+-- The largest r with r * r at most n, one binary digit a wholeStep: n is below 4 ^ d.
 unfoldable pub rootDigits : ℕ → ℕ → ℕ
 rootDigits zero n = 0
 rootDigits (suc d) n = let r = 2 * rootDigits d (n / 4) in cond (leb ((r + 1) * (r + 1)) n) (r + 1) r

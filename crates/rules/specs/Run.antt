@@ -13,27 +13,28 @@ use Rattle.rules.specs.declared.Verdict.{Verdict}
 use Rattle.rules.specs.declared.Verdict.the-variants.{GoesOn, Ends}
 use Rattle.rules.specs.Outcome.{OnPaper, turned-away, ends, times-1/tau, unscaled, all-zero, onPaper}
 use Rattle.rules.specs.Helpers.{reciprocal}
+use Rattle.rules.specs.Arithmetic.{at}
 use Rattle.rules.specs.Vectors.{scaled}
 use Rattle.rules.specs.Product.{Failure, none, block, coneWork}
 use Rattle.rules.specs.Problem.{Problem, embed, blocks, workLength}
-use Rattle.rules.specs.Step.{State, updated, xX, xY}
+use Rattle.rules.specs.Step.{State, updated, part}
 use Rattle.rules.specs.declared.Criteria.{Criteria}
 use Rattle.rules.specs.declared.Criteria.the-variants.{Conv, Inf}
-use Rattle.rules.specs.Criteria.{judged, tauOf}
+use Rattle.rules.specs.Criteria.{judged}
 use Rattle.rules.specs.declared.Norms.{Norms}
 use Rattle.rules.specs.Prepare.{norms, prepared, preparedNorms, zeros}
 
 -- ---- one whole step, without stopping
 
-pub record Turn : Type 0 where
+pub record WholeStep : Type 0 where
   pub state : State
   pub rotations : ℕ
   pub failure : Failure
   pub criteria : Criteria
 
-unfoldable pub turn : Problem → Norms → State → Turn
+unfoldable pub wholeStep : Problem → Norms → State → WholeStep
 unfolding updated judged
-turn p ns s =
+wholeStep p ns s =
     let u = updated p s in
     let v = u .state in
     let j = judged (embed p) (p .par .«eps_zero») ns (v .x) (v .rx) in
@@ -63,9 +64,9 @@ verdict par k none (Inf unbdd infeas) =
 
 -- the state after k steps from s, without stopping
 unfoldable pub stateFrom : Problem → Norms → State → ℕ → State
-unfolding turn
+unfolding wholeStep
 stateFrom p ns s zero = s
-stateFrom p ns s (suc k) = turn p ns (stateFrom p ns s k) .state
+stateFrom p ns s (suc k) = wholeStep p ns (stateFrom p ns s k) .state
 
 -- What a piece of a run comes to: what its last step said, which is GoesOn where the piece halts without an ending, and the steps and rotations made by then.
 pub record Piece : Type 0 where
@@ -80,10 +81,10 @@ goingOn (Ends e) rest k q s = record { said = Ends e; steps = k; rotations = q; 
 
 -- At most so many further steps from s, when k steps and q rotations are behind.
 unfoldable pub pieceFrom : ℕ → Problem → Norms → ℕ → ℕ → State → Piece
-unfolding turn verdict
+unfolding wholeStep verdict
 pieceFrom zero p ns k q s = record { said = GoesOn; steps = k; rotations = q; state = s }
 pieceFrom (suc more) p ns k q s =
-    let t = turn p ns s in
+    let t = wholeStep p ns s in
     let rest = pieceFrom more p ns (k + 1) (q + t .rotations) (t .state) in
     goingOn (verdict (p .par) (k + 1) (t .failure) (t .criteria)) rest (k + 1) (q + t .rotations) (t .state)
 
@@ -136,12 +137,16 @@ isScaled e = scales (onPaper e)
 abbrev pub isConeFailure : Ending → Bool
 isConeFailure e = zeroes (onPaper e)
 
--- "x and y in work: times 1/tau" where tau is above eps_zero
-unfoldable pub finalX : Problem → Ending → List Float → List Float
+-- "x and y in work: times 1/tau", of a vector like x and where the ending asks for it
+unfoldable pub finishedX : ℕ → ℕ → Bool → List Float → List Float
 unfolding scaled reciprocal
-finalX p e x =
-    let by = reciprocal (tauOf (embed p) x) in
-    cond (isScaled e) (scaled by (xX (embed p) x) ++ scaled by (xY (embed p) x) ++ drop (p .n + p .m) x) x
+finishedX m n byTau x =
+    let by = reciprocal (at x (n + m + m)) in
+    cond byTau (scaled by (part 0 n x) ++ scaled by (part n m x) ++ drop (n + m) x) x
+
+unfoldable pub finalX : Problem → Ending → List Float → List Float
+unfolding finishedX
+finalX p e x = finishedX (p .m) (p .n) (isScaled e) x
 
 -- "x is the first n places of work, y the next m; each is handed back as a part of work, empty if work is too short to hold it."
 unfoldable pub solutionX : ℕ → List Float → List Float

@@ -175,7 +175,7 @@ unfolding movedX projected tauTaken movedY
 updated p s =
     let s' = movedX p s in
     let q = projected p (s' .x) (s' .cone) in
-    let turned : State =
+    let taken : State =
     record {
       x = tauTaken p (q .cone);
       y = s' .y;
@@ -185,4 +185,4 @@ updated p s =
       tx = s' .tx;
       cone = q .work;
     } in
-    record { state = movedY p turned; rotations = q .rotations; failure = q .failure }
+    record { state = movedY p taken; rotations = q .rotations; failure = q .failure }

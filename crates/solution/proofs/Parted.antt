@@ -10,12 +10,12 @@ use lib.Seq.{take-at, drop-at, drop-drop}
 use Rattle.rules.specs.Helpers.{one, reciprocal}
 use Rattle.rules.specs.Arithmetic.{_*ᶠ_, _/ᶠ_, +0, at, each, eachTo}
 use Rattle.rules.specs.Vectors.{scaled}
+use Rattle.rules.specs.declared.Ending.{Ending}
 use Rattle.rules.specs.Problem.{Problem, lengthX}
 use Rattle.rules.specs.Prepare.{zeros}
-use Rattle.rules.specs.Run.{finalX, isScaled}
-use Rattle.rules.specs.declared.Ending.{Ending}
+use Rattle.rules.specs.Run.{finishedX, finalX, isScaled}
 use Rattle.rules.proofs.Parts.{put, drop-rest}
-use Rattle.solution.specs.Parts.{finishedX, copiedTo}
+use Rattle.solution.specs.Parts.{copiedTo}
 
 pub cleared : (v : List Float) → each (λ k w. +0) v ≡ zeros (length v)
 unfolding each
@@ -77,5 +77,5 @@ finished-not m n x = refl
 
 -- the rule's last vector is the code's
 pub final-finished : (p : Problem) (e : Ending) (x : List Float) → finalX p e x ≡ finishedX (p .m) (p .n) (isScaled e) x
-unfolding finalX finishedX
+unfolding finalX
 final-finished p e x = refl

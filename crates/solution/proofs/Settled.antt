@@ -9,9 +9,8 @@ use lib.ListN.{length, drop}
 use Rattle.rules.specs.declared.Ending.{Ending}
 use Rattle.rules.specs.Problem.{workLength}
 use Rattle.rules.specs.Prepare.{zeros}
-use Rattle.rules.specs.Run.{isScaled, isConeFailure}
+use Rattle.rules.specs.Run.{isScaled, isConeFailure, finishedX}
 use Rattle.rules.proofs.Matrices.{both-true}
-use Rattle.solution.specs.Parts.{finishedX}
 use Rattle.solution.specs.Settle.{settleFits, Fitting, Settled, SettleOutcome}
 
 module _ {m n : ℕ} {x y dpTau dpSigma rx tx work : List Float} where

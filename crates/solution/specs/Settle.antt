@@ -10,8 +10,7 @@ use Rattle.rules.specs.declared.Ending.{Ending}
 use Rattle.rules.specs.Limits.{limit}
 use Rattle.rules.specs.Problem.{lengthX, lengthY, workLength}
 use Rattle.rules.specs.Prepare.{zeros}
-use Rattle.rules.specs.Run.{isScaled, isConeFailure}
-use Rattle.solution.specs.Parts.{finishedX}
+use Rattle.rules.specs.Run.{isScaled, isConeFailure, finishedX}
 
 -- the sizes are within the limits, and the vectors have the lengths that they say
 abbrev pub lengthsFit : ℕ → ℕ → ℕ → ℕ → ℕ → ℕ → ℕ → ℕ → ℕ → Bool

@@ -1,4 +1,4 @@
--- A step with its verdict is the rule's turn, and a loop over such steps the rule's run.
+-- A step with its verdict is the rule's wholeStep, and a loop over such steps the rule's run.
 use Prim.Native.Nat.{ℕ, suc, _+_, _-_, _*_, _<_, _≤_}
 use native.Mathlib.Omega.{arith}
 use mathlib.Core.Path.{_≡_, refl, sym, _∙_, ap}
@@ -20,7 +20,7 @@ use Rattle.rules.specs.declared.Verdict.{Verdict}
 use Rattle.rules.specs.declared.Verdict.the-variants.{GoesOn, Ends}
 use Rattle.rules.specs.Limits.{limit, mostSweeps}
 use Rattle.rules.specs.Criteria.{judged}
-use Rattle.rules.specs.Run.{turn, verdict, allowance, runFrom, isConeFailure}
+use Rattle.rules.specs.Run.{wholeStep, verdict, allowance, runFrom, isConeFailure}
 use Rattle.rules.proofs.Run.{goes-on-exactly, run-more}
 use Rattle.step.specs.Moves.{ConesReady}
 use Rattle.step.specs.Update.{stateOf, StepOutcome}
@@ -32,52 +32,52 @@ use Rattle.solver.specs.Run.{SteppedBy, Iterated}
 -- ---- one step
 
 module _ (p : Problem) (ns : Norms) (s : State) where
-  turn-failure : turn p ns s .failure ≡ updated p s .failure
-  unfolding turn
-  turn-failure = refl
+  step-failure : wholeStep p ns s .failure ≡ updated p s .failure
+  unfolding wholeStep
+  step-failure = refl
 
-  turn-rotations : turn p ns s .rotations ≡ updated p s .rotations
-  unfolding turn
-  turn-rotations = refl
+  step-rotations : wholeStep p ns s .rotations ≡ updated p s .rotations
+  unfolding wholeStep
+  step-rotations = refl
 
-  turn-criteria : turn p ns s .criteria ≡ judged (embed p) (p .par .«eps_zero») ns (updated p s .state .x) (updated p s .state .rx) .criteria
-  unfolding turn
-  turn-criteria = refl
+  step-criteria : wholeStep p ns s .criteria ≡ judged (embed p) (p .par .«eps_zero») ns (updated p s .state .x) (updated p s .state .rx) .criteria
+  unfolding wholeStep
+  step-criteria = refl
 
-  turn-state : (v : State) → v ≡ updated p s .state → stateOf (v .x) (v .y) (v .dpTau) (v .dpSigma) (judged (embed p) (p .par .«eps_zero») ns (v .x) (v .rx) .rx) (v .tx) (v .cone) ≡ turn p ns s .state
-  unfolding turn
-  turn-state v e = rw e
+  step-state : (v : State) → v ≡ updated p s .state → stateOf (v .x) (v .y) (v .dpTau) (v .dpSigma) (judged (embed p) (p .par .«eps_zero») ns (v .x) (v .rx) .rx) (v .tx) (v .cone) ≡ wholeStep p ns s .state
+  unfolding wholeStep
+  step-state v e = rw e
 
-  judged-at : (k : ℕ) (v : State) → v ≡ updated p s .state → updated p s .failure ≡ none → verdict (p .par) k none (judged (embed p) (p .par .«eps_zero») ns (v .x) (v .rx) .criteria) ≡ verdict (p .par) k (turn p ns s .failure) (turn p ns s .criteria)
-  judged-at k v e f = rw (turn-failure, turn-criteria, e, f)
+  judged-at : (k : ℕ) (v : State) → v ≡ updated p s .state → updated p s .failure ≡ none → verdict (p .par) k none (judged (embed p) (p .par .«eps_zero») ns (v .x) (v .rx) .criteria) ≡ verdict (p .par) k (wholeStep p ns s .failure) (wholeStep p ns s .criteria)
+  judged-at k v e f = rw (step-failure, step-criteria, e, f)
 
-  failed-at : (k b : ℕ) → updated p s .failure ≡ block b → Ends (ConeFailure b) ≡ verdict (p .par) k (turn p ns s .failure) (turn p ns s .criteria)
+  failed-at : (k b : ℕ) → updated p s .failure ≡ block b → Ends (ConeFailure b) ≡ verdict (p .par) k (wholeStep p ns s .failure) (wholeStep p ns s .criteria)
   unfolding verdict
-  failed-at k b f = rw (turn-failure, f)
+  failed-at k b f = rw (step-failure, f)
 
   module _ (k : ℕ) (v : State) {answer : Product} (u : StepOutcome true p s answer v) where
-    pub turned-done : (q : ℕ) → answer ≡ Done q → (said : Verdict) → said ≡ verdict (p .par) k none (judged (embed p) (p .par .«eps_zero») ns (v .x) (v .rx) .criteria) → (rx' : List Float) → rx' ≡ judged (embed p) (p .par .«eps_zero») ns (v .x) (v .rx) .rx → SteppedBy p ns k s (record { verdict = said; rotations = q }) (stateOf (v .x) (v .y) (v .dpTau) (v .dpSigma) rx' (v .tx) (v .cone))
-    turned-done q is said h rx' e =
+    pub stepped-done : (q : ℕ) → answer ≡ Done q → (said : Verdict) → said ≡ verdict (p .par) k none (judged (embed p) (p .par .«eps_zero») ns (v .x) (v .rx) .criteria) → (rx' : List Float) → rx' ≡ judged (embed p) (p .par .«eps_zero») ns (v .x) (v .rx) .rx → SteppedBy p ns k s (record { verdict = said; rotations = q }) (stateOf (v .x) (v .y) (v .dpTau) (v .dpSigma) rx' (v .tx) (v .cone))
+    stepped-done q is said h rx' e =
         let f = answer-done (updated p s .rotations) (updated p s .failure) q (sym is ∙ u .answered) in
         let same : v ≡ updated p s .state = u .left ∙ none-left p s (f .0) in
         record {
           says = h ∙ judged-at k v same (f .0);
-          counts = sym (f .1) ∙ sym turn-rotations;
-          state = λ g. rw e (turn-state v same);
+          counts = sym (f .1) ∙ sym step-rotations;
+          state = λ g. rw e (step-state v same);
         }
 
-    pub turned-failed : (b q : ℕ) → answer ≡ Failed b q → (to : State) → SteppedBy p ns k s (record { verdict = Ends (ConeFailure b); rotations = q }) to
-    turned-failed b q is to =
+    pub stepped-failed : (b q : ℕ) → answer ≡ Failed b q → (to : State) → SteppedBy p ns k s (record { verdict = Ends (ConeFailure b); rotations = q }) to
+    stepped-failed b q is to =
         let f = answer-failed (updated p s .rotations) (updated p s .failure) b q (sym is ∙ u .answered) in
-        let failed : turn p ns s .failure ≡ block b = turn-failure ∙ f .0 in
+        let failed : wholeStep p ns s .failure ≡ block b = step-failure ∙ f .0 in
         record {
           says = failed-at k b (f .0);
-          counts = sym (f .1) ∙ sym turn-rotations;
+          counts = sym (f .1) ∙ sym step-rotations;
           state = λ g. let z : _≡_ {A = ℕ} 0 1 = cc in absurd (omega arith);
         }
 
-    pub turned-some : answer ≡ No → ⊥
-    turned-some is = answer-some (updated p s .rotations) (updated p s .failure) (sym is ∙ u .answered)
+    pub stepped-some : answer ≡ No → ⊥
+    stepped-some is = answer-some (updated p s .rotations) (updated p s .failure) (sym is ∙ u .answered)
 
 -- ---- how many rotations a step takes
 
@@ -105,9 +105,9 @@ projected-within p x cone ready = go (isNone (first .failure)) refl
     go true e = rw e (omega (arith, one, two))
     go false e = rw e (omega (arith, one))
 
-turn-within : (p : Problem) (ns : Norms) (s : State) {k : ℕ} → ConesReady (p .par) (p .m) (p .words) k → turn p ns s .rotations ≤ perStep
-unfolding turn updated
-turn-within p ns s ready = projected-within p (movedX p s .x) (movedX p s .cone) ready
+step-within : (p : Problem) (ns : Norms) (s : State) {k : ℕ} → ConesReady (p .par) (p .m) (p .words) k → wholeStep p ns s .rotations ≤ perStep
+unfolding wholeStep updated
+step-within p ns s ready = projected-within p (movedX p s .x) (movedX p s .cone) ready
 
 -- ---- all steps
 
@@ -139,10 +139,10 @@ running-start p ns s =
 
 module _ {p : Problem} {ns : Norms} {from : State} {k q : ℕ} {s : State} {r : Stepped} {to : State} (g : Running p ns from k q s) (t : SteppedBy p ns k s r to) where
   pub running-counts : {c : ℕ} → ConesReady (p .par) (p .m) (p .words) c → r .rotations ≤ perStep
-  running-counts ready = omega (arith, t .counts, turn-within p ns s ready)
+  running-counts ready = omega (arith, t .counts, step-within p ns s ready)
 
-  goes : r .verdict ≡ GoesOn → (turn p ns s .failure ≡ none) × (k < allowance (p .par))
-  goes h = let e = goes-on-exactly p k (turn p ns s .failure) (turn p ns s .criteria) .exactly .0 (sym (t .says) ∙ h) in (e .0, e .2)
+  goes : r .verdict ≡ GoesOn → (wholeStep p ns s .failure ≡ none) × (k < allowance (p .par))
+  goes h = let e = goes-on-exactly p k (wholeStep p ns s .failure) (wholeStep p ns s .criteria) .exactly .0 (sym (t .says) ∙ h) in (e .0, e .2)
 
   pub running-before : r .verdict ≡ GoesOn → k < allowance (p .par)
   running-before h = goes h .1
@@ -151,9 +151,9 @@ module _ {p : Problem} {ns : Norms} {from : State} {k q : ℕ} {s : State} {r : 
   running-more ready h =
       let e = goes h in
       let before : k < allowance (p .par) = e .1 in
-      let v : verdict (p .par) k (turn p ns s .failure) (turn p ns s .criteria) ≡ GoesOn = sym (t .says) ∙ h in
+      let v : verdict (p .par) k (wholeStep p ns s .failure) (wholeStep p ns s .criteria) ≡ GoesOn = sym (t .says) ∙ h in
       let one-less : suc (allowance (p .par) - (k + 1)) ≡ allowance (p .par) - k = omega arith in
-      let step = run-more p ns (allowance (p .par) - k) k q s (turn p ns s) (g .least) refl in
+      let step = run-more p ns (allowance (p .par) - k) k q s (wholeStep p ns s) (g .least) refl in
       record {
         least = omega arith;
         most = omega arith;
@@ -163,12 +163,12 @@ module _ {p : Problem} {ns : Norms} {from : State} {k q : ℕ} {s : State} {r : 
 
   pub running-end : (e : Ending) → r .verdict ≡ Ends e → Iterated p ns from (record { ending = e; steps = k; rotations = q + r .rotations }) to
   running-end e h =
-      let v : verdict (p .par) k (turn p ns s .failure) (turn p ns s .criteria) ≡ Ends e = sym (t .says) ∙ h in
-      let step = rw v at (run-more p ns (allowance (p .par) - k) k q s (turn p ns s) (g .least) refl) in
+      let v : verdict (p .par) k (wholeStep p ns s .failure) (wholeStep p ns s .criteria) ≡ Ends e = sym (t .says) ∙ h in
+      let step = rw v at (run-more p ns (allowance (p .par) - k) k q s (wholeStep p ns s) (g .least) refl) in
       rw (← g .left, step)
       (record {
         ending-is = refl;
         steps-are = refl;
         rotations-are = ap (λ (a : ℕ). q + a) (t .counts);
-        state-is = λ c. t .state (no-failure (p .par) k (turn p ns s .failure) (turn p ns s .criteria) e v c);
+        state-is = λ c. t .state (no-failure (p .par) k (wholeStep p ns s .failure) (wholeStep p ns s .criteria) e v c);
       })

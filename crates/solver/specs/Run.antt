@@ -7,14 +7,14 @@ use Rattle.rules.specs.Product.{none}
 use Rattle.rules.specs.Problem.{Problem}
 use Rattle.rules.specs.Step.{State}
 use Rattle.rules.specs.declared.Norms.{Norms}
-use Rattle.rules.specs.Run.{turn, verdict, allowance, Ended, runFrom, isConeFailure}
+use Rattle.rules.specs.Run.{wholeStep, verdict, allowance, Ended, runFrom, isConeFailure}
 use Rattle.solver.specs.declared.run.Stepped.{Stepped}
 
 -- Step k from s: what it says, and the state that it leaves where no cone failed.
 pub record SteppedBy (p : Problem) (ns : Norms) (k : ℕ) (s : State) (r : Stepped) (s' : State) : Type 0 where
-  pub says : r .verdict ≡ verdict (p .par) k (turn p ns s .failure) (turn p ns s .criteria)
-  pub counts : r .rotations ≡ turn p ns s .rotations
-  pub state : turn p ns s .failure ≡ none → s' ≡ turn p ns s .state
+  pub says : r .verdict ≡ verdict (p .par) k (wholeStep p ns s .failure) (wholeStep p ns s .criteria)
+  pub counts : r .rotations ≡ wholeStep p ns s .rotations
+  pub state : wholeStep p ns s .failure ≡ none → s' ≡ wholeStep p ns s .state
 
 -- An answer that is that of a run that ended so, and the state that is left unless a cone failed.
 pub record AsEnded (e : Ended) (answer : Answer) (s' : State) : Type 0 where

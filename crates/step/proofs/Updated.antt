@@ -74,10 +74,10 @@ module _ (par : SolverParam) (shape : Shape) (c a b : List Float) (words : List 
   moved = rw (f .x-is, f .rx-is, f .tx-is) (x-rule p x y dpTau dpSigma rx tx cone)
 
   module _ {answer : Product} {x₂ cone₂ : List Float} (o : ProductOutcome true (projectedIn par shape words x₁ cone) x₁ cone answer x₂ cone₂) where
-    abbrev turned : State
-    turned = stateOf (takenIn shape x₂) y dpTau dpSigma rx₁ tx₁ cone₂
+    abbrev taken : State
+    taken = stateOf (takenIn shape x₂) y dpTau dpSigma rx₁ tx₁ cone₂
 
-    step-rule : updated p from ≡ record { state = movedY p turned; rotations = projectedIn par shape words x₁ cone .rotations; failure = projectedIn par shape words x₁ cone .failure }
+    step-rule : updated p from ≡ record { state = movedY p taken; rotations = projectedIn par shape words x₁ cone .rotations; failure = projectedIn par shape words x₁ cone .failure }
     step-rule = updated-rule p from ∙ rw (moved, projected-rule shape c a b words par x₁ cone, tau-rule shape c a b words par, o .cone-left, o .work-left)
 
     said : answer ≡ productAnswer (updated p from .rotations) (updated p from .failure)

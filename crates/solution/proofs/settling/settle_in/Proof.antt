@@ -1,7 +1,7 @@
 -- `solution::settling::settle_in` meets its contract.
 use mathlib.Core.Path.{refl, sym, ap, _∙_}
 use mathlib.Core.Bool.{Bool}
-use Rattle.solution.specs.Parts.{finishedX}
+use Rattle.rules.specs.Run.{finishedX}
 use Rattle.solution.proofs.Settled.{settled-failed, settled-laid}
 use borrow.Author.Needs.{needs}
 use native.Mathlib.Omega.{arith}

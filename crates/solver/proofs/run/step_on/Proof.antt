@@ -4,7 +4,7 @@ use borrow.Author.Needs.{needs}
 use Rattle.rules.specs.Problem.{problemIn}
 use Rattle.step.specs.Update.{stateOf}
 use Rattle.step.proofs.Ready.{step-fits, step-true}
-use Rattle.solver.proofs.Runs.{turned-done, turned-failed, turned-some}
+use Rattle.solver.proofs.Runs.{stepped-done, stepped-failed, stepped-some}
 use Rattle.solver.proofs.run.step_on.Statement.{statement}
 use Rattle.solver.proofs.run.step_on.Tie as tie
 
@@ -45,7 +45,7 @@ returns c =
     let k = c .before .before .before .before .before .before .before .before .before .before .before .before .before .before .before .before .before .before .before .before .before .before .before .before .before .before .before .before .before .before .before .before .before .before .before .args in
     let p = problemIn (k .shape) (k .c .now) (k .a .now) (k .b .now) (k .words .now) (k .par) in
     let s = stateOf (k .x .now) (k .y .now) (k .dp-tau .now) (k .dp-sigma .now) (k .rx .now) (k .tx .now) (k .cone-work .now) in
-    turned-done p (k .norms) s (k .k) _ (step-true (c .before .before .before .before .before .before .before .before .before .before .before .before .before .before .before .before .before .before .update-vecs .ensures) (step-fits (c .before .before .before .before .before .before .before .before .before .before .before .before .before .before .before .before .before .before .before .before .before .before .before .before .before .before .before .before .before .before .before .before .before .before .before .pre))) _ (c .before .before .before .before .before .before .p .given .1) _ (c .before .before .judge .ensures .0) _ (c .before .before .judge .ensures .1)
+    stepped-done p (k .norms) s (k .k) _ (step-true (c .before .before .before .before .before .before .before .before .before .before .before .before .before .before .before .before .before .before .update-vecs .ensures) (step-fits (c .before .before .before .before .before .before .before .before .before .before .before .before .before .before .before .before .before .before .before .before .before .before .before .before .before .before .before .before .before .before .before .before .before .before .before .pre))) _ (c .before .before .before .before .before .before .p .given .1) _ (c .before .before .judge .ensures .0) _ (c .before .before .judge .ensures .1)
 
 same-length-6 : tie.Need-same-length-6
 same-length-6 c = search needs
@@ -67,7 +67,7 @@ returns-2 c =
     let k = c .before .before .before .before .before .before .before .before .before .before .before .before .before .before .before .before .before .before .before .before .before .before .before .before .before .before .before .before .before .before .args in
     let p = problemIn (k .shape) (k .c .now) (k .a .now) (k .b .now) (k .words .now) (k .par) in
     let s = stateOf (k .x .now) (k .y .now) (k .dp-tau .now) (k .dp-sigma .now) (k .rx .now) (k .tx .now) (k .cone-work .now) in
-    turned-failed p (k .norms) s (k .k) _ (step-true (c .before .before .before .before .before .before .before .before .before .before .before .before .before .update-vecs .ensures) (step-fits (c .before .before .before .before .before .before .before .before .before .before .before .before .before .before .before .before .before .before .before .before .before .before .before .before .before .before .before .before .before .before .pre))) _ _ (c .before .p2 .given .1) _
+    stepped-failed p (k .norms) s (k .k) _ (step-true (c .before .before .before .before .before .before .before .before .before .before .before .before .before .update-vecs .ensures) (step-fits (c .before .before .before .before .before .before .before .before .before .before .before .before .before .before .before .before .before .before .before .before .before .before .before .before .before .before .before .before .before .before .pre))) _ _ (c .before .p2 .given .1) _
 
 same-length-11 : tie.Need-same-length-11
 same-length-11 c = search needs
@@ -89,7 +89,7 @@ returns-3 c =
     let k = c .before .before .before .before .before .before .before .before .before .before .before .before .before .before .before .before .before .before .before .before .before .before .before .before .before .before .before .before .before .args in
     let p = problemIn (k .shape) (k .c .now) (k .a .now) (k .b .now) (k .words .now) (k .par) in
     let s = stateOf (k .x .now) (k .y .now) (k .dp-tau .now) (k .dp-sigma .now) (k .rx .now) (k .tx .now) (k .cone-work .now) in
-    absurd (turned-some p (k .norms) s (k .k) _ (step-true (c .before .before .before .before .before .before .before .before .before .before .before .before .update-vecs .ensures) (step-fits (c .before .before .before .before .before .before .before .before .before .before .before .before .before .before .before .before .before .before .before .before .before .before .before .before .before .before .before .before .before .pre))) (c .enum-told .given .1))
+    absurd (stepped-some p (k .norms) s (k .k) _ (step-true (c .before .before .before .before .before .before .before .before .before .before .before .before .update-vecs .ensures) (step-fits (c .before .before .before .before .before .before .before .before .before .before .before .before .before .before .before .before .before .before .before .before .before .before .before .before .before .before .before .before .before .pre))) (c .enum-told .given .1))
 
 pub step-on-spec : {M : Type 1} → statement M
 step-on-spec =

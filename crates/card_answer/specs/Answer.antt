@@ -11,6 +11,7 @@ use Rattle.rules.specs.declared.SolverParam.{SolverParam}
 use Rattle.rules.specs.declared.Storage.{Storage}
 use Rattle.rules.specs.declared.Storage.the-variants.{Dense, Packed}
 use Rattle.rules.specs.Arithmetic.{+0, tabulate}
+use Rattle.rules.specs.Parameters.{paramOf}
 use Rattle.rules.specs.Problem.{Problem, problemOf}
 use Rattle.rules.specs.Run.{Left}
 use Rattle.rules.specs.Refusals.{solved}
@@ -32,13 +33,7 @@ numbersAt numbers from count = tabulate count (λ k. numberAt numbers (from + k)
 
 unfoldable pub parametersOf : ℕ → ℕ → List ℕ → SolverParam
 parametersOf maxIter sweepLimit numbers =
-    record {
-      «max_iter» = maxIter;
-      «eps_acc» = numberAt numbers 0;
-      «eps_inf» = numberAt numbers 1;
-      «eps_zero» = numberAt numbers 2;
-      «sweep_limit» = sweepLimit;
-    }
+    paramOf maxIter (numberAt numbers 0) (numberAt numbers 1) (numberAt numbers 2) sweepLimit
 
 abbrev pub storageOf : Bool → Storage
 storageOf packed = cond packed Packed Dense

@@ -74,13 +74,13 @@ fn parameters(numbers: &[u64], max_iter: u64, sweep_limit: u64) -> SolverParam
     requires { ⌜ 3 ≤ length (now numbers) ⌝ }
     ensures { λ r. ⌜ r ≡ parametersOf «max_iter» «sweep_limit» (now (numbers .entry)) ⌝ }
 {
-    SolverParam {
+    SolverParam::of(
         max_iter,
-        eps_acc: patterns::number_of(numbers[0]),
-        eps_inf: patterns::number_of(numbers[1]),
-        eps_zero: patterns::number_of(numbers[2]),
+        patterns::number_of(numbers[0]),
+        patterns::number_of(numbers[1]),
+        patterns::number_of(numbers[2]),
         sweep_limit,
-    }
+    )
 }
 
 fn storage_of(packed: bool) -> Storage

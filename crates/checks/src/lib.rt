@@ -159,13 +159,7 @@ pub fn read_eps(par: SolverParam) -> SolverParam
     ensures { λ r. ⌜ r ≡ asRead par ⌝ }
 {
     if par.eps_zero == 0.0 {
-        return SolverParam {
-            max_iter: par.max_iter,
-            eps_acc: par.eps_acc,
-            eps_inf: par.eps_inf,
-            eps_zero: 0.0,
-            sweep_limit: par.sweep_limit,
-        };
+        return SolverParam::with_eps_zero(par, 0.0);
     }
     par
 }

@@ -112,13 +112,13 @@ fn lends(record: &[u8], lent_at: usize, c: &[f64], a: &[f64], b: &[f64], words: 
 }
 
 fn parameters(record: &[u8]) -> SolverParam {
-    SolverParam {
-        max_iter: record::word(record, 0),
-        eps_acc: record::number(record, 2),
-        eps_inf: record::number(record, 3),
-        eps_zero: record::number(record, 4),
-        sweep_limit: record::word(record, 1),
-    }
+    SolverParam::of(
+        record::word(record, 0),
+        record::number(record, 2),
+        record::number(record, 3),
+        record::number(record, 4),
+        record::word(record, 1),
+    )
 }
 
 fn storage(record: &[u8]) -> Storage {

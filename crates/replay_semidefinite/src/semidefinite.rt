@@ -30,13 +30,7 @@ fn project(
 
 // The parameters that a projection reads; the others say nothing to it.
 pub fn parameters(eps_zero: f64, sweep_limit: u64) -> SolverParam {
-    SolverParam {
-        max_iter: 1,
-        eps_acc: 0.0,
-        eps_inf: 0.0,
-        eps_zero: eps_zero,
-        sweep_limit: sweep_limit,
-    }
+    SolverParam::of(1, 0.0, 0.0, eps_zero, sweep_limit)
 }
 
 pub fn is_done(answer: Projection, rotations: u64) -> bool {

@@ -11,6 +11,7 @@ use Rattle.rules.specs.declared.Cone.{Cone}
 use Rattle.rules.specs.declared.Shape.{Shape}
 use Rattle.rules.specs.declared.SolverParam.{SolverParam}
 use Rattle.rules.specs.Arithmetic.{+0}
+use Rattle.rules.specs.Parameters.{withEpsZero}
 use Rattle.rules.specs.Blocks.{blocksOf}
 
 -- "A problem is c (n numbers), A (m by n, ..), b (m numbers), a cone list and parameters"
@@ -80,14 +81,7 @@ epsZero par = cond (eq (par .«eps_zero») +0) +0 (par .«eps_zero»)
 
 unfoldable pub asRead : SolverParam → SolverParam
 unfolding epsZero
-asRead par =
-    record {
-      «max_iter» = par .«max_iter»;
-      «eps_acc» = par .«eps_acc»;
-      «eps_inf» = par .«eps_inf»;
-      «eps_zero» = epsZero par;
-      «sweep_limit» = par .«sweep_limit»;
-    }
+asRead par = withEpsZero par (epsZero par)
 
 -- the lengths of x (n, dual m, primal m, tau) and of y (n, m, 1)
 abbrev pub lengthX : ℕ → ℕ → ℕ

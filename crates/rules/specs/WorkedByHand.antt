@@ -20,7 +20,7 @@ use Rattle.rules.specs.Helpers.{larger, smaller}
 use Rattle.rules.specs.Matrices.{opped, transOpped, absaddedRows, absaddedCols}
 use Rattle.rules.specs.Projections.{projSOC}
 use Rattle.rules.specs.Blocks.{readWord}
-use Rattle.rules.specs.Parameters.{defaults}
+use Rattle.rules.specs.Parameters.{withEpsZero, defaults}
 use Rattle.rules.specs.Outcome.{turned-away, onPaper}
 use Rattle.rules.specs.Problem.{Problem}
 use Rattle.rules.specs.Refusals.{solved, turnedAway}
@@ -80,14 +80,7 @@ byDefault = empty (defaults 1_000_000 64)
 
 -- "the same, eps_zero 0, max_iter 1"
 abbrev epsZero0 : SolverParam → SolverParam
-epsZero0 par =
-    record {
-      «max_iter» = par .«max_iter»;
-      «eps_acc» = par .«eps_acc»;
-      «eps_inf» = par .«eps_inf»;
-      «eps_zero» = +0;
-      «sweep_limit» = par .«sweep_limit»;
-    }
+epsZero0 par = withEpsZero par +0
 
 -- places that held 5 before
 abbrev held : ℕ → List Float

@@ -1,7 +1,7 @@
 // What is right. The rules stand in specs/, in document 01's order and words; this file declares
 // the types that the rules and the code share.
 ghost use mathlib.Core.Path.{_≡_};
-ghost use Rattle.rules.specs.Parameters.{defaults};
+ghost use Rattle.rules.specs.Parameters.{paramOf, withEpsZero, defaults};
 
 // The most rows and the most columns of a matrix, which are the largest m and n.
 pub const LIMIT: usize = 256;
@@ -77,12 +77,44 @@ impl SolverParam {
     pub fn new(max_iter: u64, sweep_limit: u64) -> SolverParam
         ensures { λ r. ⌜ r ≡ defaults «max_iter» «sweep_limit» ⌝ }
     {
+        SolverParam::of(
+            max_iter,
+            SolverParam::EPS_ACC,
+            SolverParam::EPS_INF,
+            SolverParam::EPS_ZERO,
+            sweep_limit,
+        )
+    }
+
+    // The parameters with these limits and tolerances.
+    pub fn of(
+        max_iter: u64,
+        eps_acc: f64,
+        eps_inf: f64,
+        eps_zero: f64,
+        sweep_limit: u64,
+    ) -> SolverParam
+        ensures { λ r. ⌜ r ≡ paramOf «max_iter» «eps_acc» «eps_inf» «eps_zero» «sweep_limit» ⌝ }
+    {
         SolverParam {
             max_iter,
-            eps_acc: SolverParam::EPS_ACC,
-            eps_inf: SolverParam::EPS_INF,
-            eps_zero: SolverParam::EPS_ZERO,
+            eps_acc,
+            eps_inf,
+            eps_zero,
             sweep_limit,
+        }
+    }
+
+    // The same parameters but for eps_zero.
+    pub fn with_eps_zero(par: SolverParam, eps: f64) -> SolverParam
+        ensures { λ r. ⌜ r ≡ withEpsZero par eps ⌝ }
+    {
+        SolverParam {
+            max_iter: par.max_iter,
+            eps_acc: par.eps_acc,
+            eps_inf: par.eps_inf,
+            eps_zero: eps,
+            sweep_limit: par.sweep_limit,
         }
     }
 }

@@ -1,13 +1,15 @@
 -- `checks::read_eps` meets its contract.
+use mathlib.Core.Path.{_∙_}
+use borrow.Author.Needs.{needs}
 use Rattle.checks.proofs.Read.{read-zero, read-other}
 use Rattle.checks.proofs.read_eps.Statement.{statement}
 use Rattle.checks.proofs.read_eps.Tie as tie
 
 returns : tie.Need-returns
-returns c = read-zero (c .before .before .args .par) (c .if1 .taken)
+returns c = c @with-eps-zero .ensures ∙ read-zero (c @START .args .par) (c @if1 .taken)
 
 returns-2 : tie.Need-returns-2
-returns-2 c = read-other (c .before .before .args .par) (c .if1 .left)
+returns-2 c = read-other (c @START .args .par) (c @if1 .left)
 
 pub read-eps-spec : {M : Type 1} → statement M
 read-eps-spec =

@@ -22,9 +22,9 @@ use Rattle.rules.specs.Limits.{limit, mostSweeps}
 use Rattle.rules.specs.Criteria.{judged}
 use Rattle.rules.specs.Run.{wholeStep, verdict, allowance, runFrom, isConeFailure}
 use Rattle.rules.proofs.Run.{goes-on-exactly, run-more}
-use Rattle.step.specs.Moves.{ConesReady}
+use Rattle.project.specs.Project.{ConesReady}
 use Rattle.step.specs.Update.{stateOf, StepOutcome}
-use Rattle.step.proofs.Cones.{pass-rotations, answer-done, answer-failed, answer-some}
+use Rattle.project.proofs.Cones.{pass-rotations, answer-done, answer-failed, answer-some}
 use Rattle.step.proofs.Updated.{none-left}
 use Rattle.solver.specs.declared.run.Stepped.{Stepped}
 use Rattle.solver.specs.Run.{SteppedBy, Iterated}

@@ -1,4 +1,3 @@
 pub mod Ready
 pub mod Moves
-pub mod Cones
 pub mod Updated

@@ -15,9 +15,10 @@ use Rattle.rules.specs.Vectors.{transformedDi}
 use Rattle.rules.specs.Product.{none, block, productAnswer, ProductOutcome}
 use Rattle.rules.specs.Problem.{Problem, embed, lengthY, problemIn, embedIn}
 use Rattle.rules.specs.Step.{State, transOpK, movedX, projected, tauTaken, movedY, updated}
-use Rattle.step.specs.Moves.{XMoved, YMoved, projectedIn, takenIn, nextRx, nextTy, nextY}
+use Rattle.step.specs.Moves.{XMoved, YMoved, takenIn, nextRx, nextTy, nextY}
 use Rattle.step.specs.Update.{stateOf, stopped, stepped, StepOutcome}
-use Rattle.step.proofs.Cones.{answer-done, answer-failed, answer-some}
+use Rattle.project.specs.Project.{projectedIn}
+use Rattle.project.proofs.Cones.{answer-done, answer-failed, answer-some}
 
 -- ---- each rule, with its arguments written out
 

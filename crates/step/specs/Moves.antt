@@ -1,21 +1,15 @@
 -- What the functions of one step ask and leave: update_vecs of solver.rs, part by part.
-use Prim.Native.Nat.{ℕ, _+_, _≤_}
+use Prim.Native.Nat.{ℕ, _+_}
 use mathlib.Core.Path.{_≡_}
-use mathlib.Core.Bool.{true, false}
-use mathlib.Core.List.{List, [], _++_}
+use mathlib.Core.List.{List, _++_}
 use lib.Ieee.{Float, neg}
 use lib.ListN.{take, drop, set}
 use Rattle.rules.specs.declared.Shape.{Shape}
-use Rattle.rules.specs.declared.SolverParam.{SolverParam}
-use Rattle.rules.specs.Limits.{limit}
 use Rattle.rules.specs.Helpers.{one, larger, smaller}
 use Rattle.rules.specs.Arithmetic.{_-ᶠ_, +0, at}
 use Rattle.rules.specs.Vectors.{added, transformedDi}
-use Rattle.rules.specs.Blocks.{hasBadWord, blocksOf, totalPlaces}
-use Rattle.rules.specs.Projections.{sweepsFit}
-use Rattle.rules.specs.Product.{Passed, coneWork}
-use Rattle.rules.specs.Problem.{Embed, lengthY, problemIn}
-use Rattle.rules.specs.Step.{opK, transOpK, projected}
+use Rattle.rules.specs.Problem.{Embed, lengthY}
+use Rattle.rules.specs.Step.{opK, transOpK}
 use Rattle.shape.specs.Fitting.{Fits, LikeX, LikeY}
 
 -- ---- x
@@ -35,19 +29,7 @@ pub record XMoved (k : Embed) (x y dpTau tx x' rx' tx' : List Float) : Type 0 wh
   pub rx-is : rx' ≡ x
   pub x-is : x' ≡ transformedDi one dpTau (transOpK k (neg one) y +0 tx) one x
 
--- ---- the cones
-
--- a list of cones that covers m places, with a sweep limit that fits and cone work that is long enough
-pub record ConesReady (par : SolverParam) (m : ℕ) (words : List ℕ) (cone : ℕ) : Type 0 where
-  pub within : m ≤ limit
-  pub readable : hasBadWord words ≡ false
-  pub places : totalPlaces (blocksOf words) ≡ m
-  pub sweeps : sweepsFit par ≡ true
-  pub enough : coneWork (blocksOf words) ≤ cone
-
--- the projection of a problem, of which it reads no more than this
-abbrev pub projectedIn : SolverParam → Shape → List ℕ → List Float → List Float → Passed
-projectedIn par shape words x cone = projected (problemIn shape [] [] [] words par) x cone
+-- ---- tau
 
 -- tau, the place after n + m + m, taken
 abbrev pub tauPlace : Shape → ℕ

@@ -13,7 +13,7 @@ use Rattle.rules.specs.Product.{isNone, productAnswer, lengthsFit}
 use Rattle.rules.specs.Problem.{Problem}
 use Rattle.rules.specs.Step.{State, movedX, projected, updated}
 use Rattle.shape.specs.Fitting.{operatorsFit, fitsX, fitsY, Fits, LikeX, LikeY}
-use Rattle.step.specs.Moves.{ConesReady}
+use Rattle.project.specs.Project.{ConesReady}
 
 abbrev pub stateOf : List Float → List Float → List Float → List Float → List Float → List Float → List Float → State
 stateOf x y dpTau dpSigma rx tx cone =

@@ -11,10 +11,9 @@ ghost use mathlib.Core.Path.{_≡_};
 ghost use mathlib.Core.Bool.{true};
 ghost use lib.ListN.{length};
 ghost use Rattle.rules.specs.Limits.{limit};
-ghost use Rattle.rules.specs.Product.{ProductOutcome};
 ghost use Rattle.rules.specs.Problem.{problemIn, embedIn};
 ghost use Rattle.shape.specs.Fitting.{LikeX};
-ghost use Rattle.step.specs.Moves.{CanMoveX, XMoved, ConesReady, projectedIn, takenIn, CanMoveY, YMoved};
+ghost use Rattle.step.specs.Moves.{CanMoveX, XMoved, takenIn, CanMoveY, YMoved};
 ghost use Rattle.step.specs.Update.{stateOf, vectorsFit, stepFits, StepReady, StepOutcome};
 
 // What the cone makes of a step: the rotations, or the block that failed with the rotations up to there. Where a
@@ -112,7 +111,7 @@ fn update_fitting(
     ensures { λ r. ⌜ StepOutcome true (problemIn shape (now (c .entry)) (now (a .entry)) (now (b .entry)) (now (words .entry)) par) (stateOf (now (x .entry)) (now (y .entry)) (now («dp_tau» .entry)) (now («dp_sigma» .entry)) (now (rx .entry)) (now (tx .entry)) (now («cone_work» .entry))) r (stateOf (now (x .exit)) (now (y .exit)) (now («dp_tau» .entry)) (now («dp_sigma» .entry)) (now (rx .exit)) (now (tx .exit)) (now («cone_work» .exit))) ⌝ }
 {
     move_x(shape, c, a, b, x, y, dp_tau, rx, tx);
-    let p = project(par, shape, words, x, cone_work);
+    let p = project::project(par, shape, words, x, cone_work);
     match p {
         Product::Done(q) => {
             take_tau(shape, x);
@@ -142,38 +141,6 @@ fn move_x(
     linalg::copy(x, rx);
     embed_trans::trans_op(shape, c, a, b, -1.0, y, 0.0, tx);
     linalg::transform_di(1.0, dp_tau, tx, 1.0, x);
-}
-
-// Projects all dual blocks, then all primal blocks.
-fn project(
-    par: SolverParam,
-    shape: Shape,
-    words: &[u16],
-    x: &mut [f64],
-    cone_work: &mut [f64],
-) -> Product
-    requires { ⌜ ConesReady par (shape .rows .0) (now words) (length (now «cone_work»)) ⌝ }
-    requires { ⌜ shape .cols .0 ≤ limit ⌝ }
-    requires { ⌜ LikeX shape (now x) ⌝ }
-    ensures { λ r. ⌜ ProductOutcome true (projectedIn par shape (now (words .entry)) (now (x .entry)) (now («cone_work» .entry))) (now (x .entry)) (now («cone_work» .entry)) r (now (x .exit)) (now («cone_work» .exit)) ⌝ }
-{
-    let m = shape.rows.0;
-    let n = shape.cols.0;
-    let nm = n + m;
-    let nmm = nm + m;
-    let dual = product::product_proj(par, true, words, &mut x[n..nm], cone_work);
-    match dual {
-        Product::Done(q) => {
-            let primal = product::product_proj(par, false, words, &mut x[nm..nmm], cone_work);
-            match primal {
-                Product::Done(r) => Product::Done(q + r),
-                Product::Failed(block, r) => Product::Failed(block, q + r),
-                Product::No => Product::No,
-            }
-        }
-        Product::Failed(block, q) => Product::Failed(block, q),
-        Product::No => Product::No,
-    }
 }
 
 // Takes the larger of tau and 0.

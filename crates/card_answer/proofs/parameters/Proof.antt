@@ -1,4 +1,5 @@
 -- `card_answer::parameters` meets its contract.
+use mathlib.Core.Path.{_∙_}
 use borrow.Author.Needs.{needs}
 use Rattle.card_answer.specs.Answer.{parametersOf}
 use Rattle.card_answer.proofs.parameters.Statement.{statement}
@@ -24,7 +25,7 @@ number-of-requires-3 c κs = search needs
 
 returns : tie.Need-returns
 unfolding parametersOf
-returns c = rw (c .before .before .before .before .number-of .ensures, c .before .before .number-of2 .ensures, c .number-of3 .ensures)
+returns c = c @of .ensures ∙ rw (c @number-of .ensures, c @number-of2 .ensures, c @number-of3 .ensures)
 
 pub parameters-spec : {M : Type 1} → statement M
 parameters-spec =

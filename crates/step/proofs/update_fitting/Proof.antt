@@ -2,6 +2,9 @@
 use Prim.Native.Nat.{_-_}
 use native.Mathlib.Omega.{arith}
 use borrow.Author.Needs.{needs}
+use Rattle.shape.specs.Fitting.{LikeX}
+use Rattle.shape.proofs.Fitting.{sizes-within}
+use Rattle.project.proofs.Ready.{project-fits, projected-true}
 use Rattle.step.proofs.Updated.{step-some, step-failed, step-done}
 use Rattle.step.proofs.update_fitting.Statement.{statement}
 use Rattle.step.proofs.update_fitting.Tie as tie
@@ -12,9 +15,7 @@ move-x-requires c κs =
     record { operators = f .operators; x-like = f .x-like; y-like = f .y-like; tau-like = f .tau-like; rx-like = f .rx-like; tx-like = f .tx-like }
 
 project-requires : tie.Need-project-requires
-project-requires c κs =
-    let f = c .before .before .before .before .before .before .before .before .before .before .before .before .before .before .before .before .before .before .before .before .before .before .before .before .pre in
-    (f .cones, (f .operators .n-within, record { is = omega (arith, f .x-like .is, c .before .before .before .before .before .before .before .before .move-x .kept) }))
+project-requires c κs = search needs
 
 enum-known-p : tie.Need-enum-known-p
 enum-known-p c = search needs
@@ -53,7 +54,10 @@ same-length-5 c = search needs
 returns : tie.Need-returns
 returns c =
     let k = c .before .before .before .before .before .before .before .before .before .before .before .before .before .before .before .before .before .before .before .before .before .before .before .before .before .before .before .before .before .before .before .before .before .before .before .before .before .before .before .before .before .before .before .before .before .before .before .args in
-    step-done (k .par) (k .shape) (k .c .now) (k .a .now) (k .b .now) (k .words .now) (k .x .now) (k .y .now) (k .dp-tau .now) (k .dp-sigma .now) (k .rx .now) (k .tx .now) (k .cone-work .now) (c .before .before .before .before .before .before .before .before .before .before .before .before .before .before .before .before .before .before .before .before .before .before .before .before .before .before .before .before .before .before .before .move-x .ensures) (c .before .before .before .before .before .before .before .before .before .before .before .before .before .before .before .before .before .before .before .before .before .before .project .ensures) _ (c .before .before .before .before .before .before .before .before .before .before .before .before .before .before .before .before .p .given .1) (c .before .before .before .before .before .before .before .before .before .before .before .before .before .take-tau .ensures) (c .before .before .before .before .before .before .move-y .ensures)
+    let f = c .before .before .before .before .before .before .before .before .before .before .before .before .before .before .before .before .before .before .before .before .before .before .before .before .before .before .before .before .before .before .before .before .before .before .before .before .before .before .before .before .before .before .before .before .before .before .before .pre in
+    let like : LikeX (k .shape) (c .before .before .before .before .before .before .before .before .before .before .before .before .before .before .before .before .before .before .before .before .before .before .before .before .before .before .before .before .before .before .before .move-x .last .1 .1 .1 .1 .0) = record { is = omega (arith, f .x-like .is, c .before .before .before .before .before .before .before .before .before .before .before .before .before .before .before .before .before .before .before .before .before .before .before .before .before .before .before .before .before .before .before .move-x .kept) } in
+    let q = projected-true (c .before .before .before .before .before .before .before .before .before .before .before .before .before .before .before .before .before .before .before .before .before .before .project .ensures) (project-fits (k .cone-work .now) (sizes-within (f .operators)) like (f .cones)) in
+    step-done (k .par) (k .shape) (k .c .now) (k .a .now) (k .b .now) (k .words .now) (k .x .now) (k .y .now) (k .dp-tau .now) (k .dp-sigma .now) (k .rx .now) (k .tx .now) (k .cone-work .now) (c .before .before .before .before .before .before .before .before .before .before .before .before .before .before .before .before .before .before .before .before .before .before .before .before .before .before .before .before .before .before .before .move-x .ensures) q _ (c .before .before .before .before .before .before .before .before .before .before .before .before .before .before .before .before .p .given .1) (c .before .before .before .before .before .before .before .before .before .before .before .before .before .take-tau .ensures) (c .before .before .before .before .before .before .move-y .ensures)
 
 same-length-6 : tie.Need-same-length-6
 same-length-6 c = search needs
@@ -73,7 +77,10 @@ same-length-10 c = search needs
 returns-2 : tie.Need-returns-2
 returns-2 c =
     let k = c .before .before .before .before .before .before .before .before .before .before .before .before .before .before .before .before .before .before .before .before .before .before .before .before .before .before .before .before .before .before .before .before .args in
-    step-failed (k .par) (k .shape) (k .c .now) (k .a .now) (k .b .now) (k .words .now) (k .x .now) (k .y .now) (k .dp-tau .now) (k .dp-sigma .now) (k .rx .now) (k .tx .now) (k .cone-work .now) (c .before .before .before .before .before .before .before .before .before .before .before .before .before .before .before .before .move-x .ensures) (c .before .before .before .before .before .before .before .project .ensures) _ _ (c .before .p2 .given .1)
+    let f = c .before .before .before .before .before .before .before .before .before .before .before .before .before .before .before .before .before .before .before .before .before .before .before .before .before .before .before .before .before .before .before .before .pre in
+    let like : LikeX (k .shape) (c .before .before .before .before .before .before .before .before .before .before .before .before .before .before .before .before .move-x .last .1 .1 .1 .1 .0) = record { is = omega (arith, f .x-like .is, c .before .before .before .before .before .before .before .before .before .before .before .before .before .before .before .before .move-x .kept) } in
+    let q = projected-true (c .before .before .before .before .before .before .before .project .ensures) (project-fits (k .cone-work .now) (sizes-within (f .operators)) like (f .cones)) in
+    step-failed (k .par) (k .shape) (k .c .now) (k .a .now) (k .b .now) (k .words .now) (k .x .now) (k .y .now) (k .dp-tau .now) (k .dp-sigma .now) (k .rx .now) (k .tx .now) (k .cone-work .now) (c .before .before .before .before .before .before .before .before .before .before .before .before .before .before .before .before .move-x .ensures) q _ _ (c .before .p2 .given .1)
 
 same-length-11 : tie.Need-same-length-11
 same-length-11 c = search needs
@@ -93,7 +100,10 @@ same-length-15 c = search needs
 returns-3 : tie.Need-returns-3
 returns-3 c =
     let k = c .before .before .before .before .before .before .before .before .before .before .before .before .before .before .before .before .before .before .before .before .before .before .before .before .before .before .before .before .before .before .before .args in
-    absurd (step-some (k .par) (k .shape) (k .c .now) (k .a .now) (k .b .now) (k .words .now) (k .x .now) (k .y .now) (k .dp-tau .now) (k .dp-sigma .now) (k .rx .now) (k .tx .now) (k .cone-work .now) (c .before .before .before .before .before .before .before .before .before .before .before .before .before .before .before .move-x .ensures) (c .before .before .before .before .before .before .project .ensures) (c .enum-told .given .1))
+    let f = c .before .before .before .before .before .before .before .before .before .before .before .before .before .before .before .before .before .before .before .before .before .before .before .before .before .before .before .before .before .before .before .pre in
+    let like : LikeX (k .shape) (c .before .before .before .before .before .before .before .before .before .before .before .before .before .before .before .move-x .last .1 .1 .1 .1 .0) = record { is = omega (arith, f .x-like .is, c .before .before .before .before .before .before .before .before .before .before .before .before .before .before .before .move-x .kept) } in
+    let q = projected-true (c .before .before .before .before .before .before .project .ensures) (project-fits (k .cone-work .now) (sizes-within (f .operators)) like (f .cones)) in
+    absurd (step-some (k .par) (k .shape) (k .c .now) (k .a .now) (k .b .now) (k .words .now) (k .x .now) (k .y .now) (k .dp-tau .now) (k .dp-sigma .now) (k .rx .now) (k .tx .now) (k .cone-work .now) (c .before .before .before .before .before .before .before .before .before .before .before .before .before .before .before .move-x .ensures) q (c .enum-told .given .1))
 
 pub update-fitting-spec : {M : Type 1} → statement M
 update-fitting-spec =

@@ -1,10 +1,10 @@
--- `step::project` meets its contract.
+-- `project::project_fitting` meets its contract.
 use Prim.Native.Nat.{_-_}
 use native.Mathlib.Omega.{arith}
 use borrow.Author.Needs.{needs}
-use Rattle.step.proofs.Cones.{first-some, first-failed, second-some, second-done, second-failed, counts-done, counts-failed}
-use Rattle.step.proofs.project.Statement.{statement}
-use Rattle.step.proofs.project.Tie as tie
+use Rattle.project.proofs.Cones.{first-some, first-failed, second-some, second-done, second-failed, counts-done, counts-failed}
+use Rattle.project.proofs.project_fitting.Statement.{statement}
+use Rattle.project.proofs.project_fitting.Tie as tie
 
 add-nm : tie.Need-add-nm
 add-nm c = search needs
@@ -111,8 +111,8 @@ same-length-10 c = search needs
 returns-5 : tie.Need-returns-5
 returns-5 c = absurd (first-some (c .before .before .before .before .before .before .before .before .before .before .before .before .args .x .now) (c .before .before .before .before .before .before .before .before .before .before .before .before .pre .0) (c .before .before .before .before .before .before .before .before .before .before .before .before .pre .1 .1) (c .before .before .before .before .before .before .product-proj .ensures) (c .enum-told2 .given .1))
 
-pub project-spec : {M : Type 1} → statement M
-project-spec =
+pub project-fitting-spec : {M : Type 1} → statement M
+project-fitting-spec =
     tie.close
     (tie.spec
     add-nm

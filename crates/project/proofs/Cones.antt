@@ -21,7 +21,7 @@ use Rattle.rules.proofs.ConeProduct.{block-rotations}
 use Rattle.rules.proofs.Parts as parts
 use Rattle.rules.proofs.Parts.{put, drop-rest, part-length, put-length}
 use Rattle.shape.specs.Fitting.{LikeX}
-use Rattle.step.specs.Moves.{ConesReady, projectedIn}
+use Rattle.project.specs.Project.{ConesReady, projectedIn}
 
 -- ---- what fits
 

@@ -20,8 +20,8 @@ use Rattle.rules.proofs.Lengths.{prepared-sized}
 use Rattle.shape.specs.Fitting.{LikeX, LikeY}
 use Rattle.precond.specs.Precond.{shapeOf, Covers}
 use Rattle.step.specs.Update.{stateOf}
-use Rattle.solution.specs.Settle.{Settled}
-use Rattle.solution.proofs.Parted.{final-finished}
+use Rattle.settle.specs.Settle.{Settled}
+use Rattle.settle.proofs.Parted.{final-finished}
 use Rattle.solver.specs.Solve.{Ready, PreparedAs, Lent, AtZero, RanIn}
 use Rattle.solver.specs.Run.{AsEnded, Iterated}
 

@@ -29,7 +29,7 @@ pub(crate) fn run_in(
     requires { ⌜ AtZero shape (now x) (now y) (now «dp_tau») (now «dp_sigma») (now rx) (now tx) ⌝ }
     ensures { λ r. ⌜ RanIn (problemIn shape (now (c .entry)) (now (a .entry)) (now (b .entry)) (now (words .entry)) par) (now (work .entry)) r (now (work .exit)) (now («cone_work» .exit)) ⌝ }
 {
-    solution::clear(cone_work);
+    settle::clear(cone_work);
     let norms = prepare_all(par, shape, c, a, b, words, x, y, dp_tau, dp_sigma);
     let answer = run::iterate(
         par,
@@ -50,7 +50,7 @@ pub(crate) fn run_in(
     let ending = answer.ending;
     let rows = shape.rows;
     let cols = shape.cols;
-    solution::settle(
+    settle::settle(
         rows,
         cols,
         ending,

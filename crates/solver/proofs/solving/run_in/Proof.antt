@@ -2,7 +2,7 @@
 use native.Mathlib.Omega.{arith}
 use borrow.Author.Needs.{needs}
 use Rattle.solver.proofs.Whole.{covers, zero-x, zero-y, zero-tau, zero-sigma, zero-rx, zero-tx, cleared-long, prepared-x, prepared-y, prepared-tau, prepared-sigma, whole-run, ran-in}
-use Rattle.solution.proofs.Settled.{settled-if-fitting}
+use Rattle.settle.proofs.Settled.{settled-if-fitting}
 use Rattle.solver.proofs.solving.run_in.Statement.{statement}
 use Rattle.solver.proofs.solving.run_in.Tie as tie
 

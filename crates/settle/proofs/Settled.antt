@@ -11,7 +11,7 @@ use Rattle.rules.specs.Problem.{workLength}
 use Rattle.rules.specs.Prepare.{zeros}
 use Rattle.rules.specs.Run.{isScaled, isConeFailure, finishedX}
 use Rattle.rules.proofs.Matrices.{both-true}
-use Rattle.solution.specs.Settle.{settleFits, Fitting, Settled, SettleOutcome}
+use Rattle.settle.specs.Settle.{settleFits, Fitting, Settled, SettleOutcome}
 
 module _ {m n : ℕ} {x y dpTau dpSigma rx tx work : List Float} where
   pub fits-fitting : settleFits m n x y dpTau dpSigma rx tx work ≡ true → Fitting m n x y dpTau dpSigma rx tx work

@@ -6,7 +6,7 @@ ghost use lib.ListN.{length, drop};
 ghost use Rattle.rules.specs.Problem.{lengthX};
 ghost use Rattle.rules.specs.Prepare.{zeros};
 ghost use Rattle.rules.specs.Run.{finishedX};
-ghost use Rattle.solution.specs.Parts.{copiedTo};
+ghost use Rattle.settle.specs.Parts.{copiedTo};
 
 // x and y over tau, where the ending asks for it.
 pub(crate) fn finish(m: usize, n: usize, by_tau: bool, x: &mut [f64])

@@ -1,12 +1,12 @@
--- `solution::settling::clear_front` meets its contract.
+-- `settle::settling::clear_front` meets its contract.
 use mathlib.Core.Path.{_≡_}
 use lib.ListN.{length, take}
 use lib.Seq.{length-take-le}
 use Rattle.rules.specs.Problem.{workLength}
 use Rattle.rules.proofs.Parts.{from-start}
 use borrow.Author.Needs.{needs}
-use Rattle.solution.proofs.settling.clear_front.Statement.{statement}
-use Rattle.solution.proofs.settling.clear_front.Tie as tie
+use Rattle.settle.proofs.settling.clear_front.Statement.{statement}
+use Rattle.settle.proofs.settling.clear_front.Tie as tie
 
 mul-required : tie.Need-mul-required
 mul-required c = search needs

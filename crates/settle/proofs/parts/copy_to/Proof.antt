@@ -1,4 +1,4 @@
--- `solution::parts::copy_to` meets its contract.
+-- `settle::parts::copy_to` meets its contract.
 use borrow.Author.Needs.{needs}
 use borrow.Author.Tests.{eq-eqb}
 use native.Mathlib.Omega.{arith}
@@ -6,9 +6,9 @@ use Prim.Native.Nat.{_+_, _-_}
 use lib.ListN.{length}
 use Rattle.rules.specs.Step.{part}
 use Rattle.rules.proofs.Outcome.{ruled-if-fits}
-use Rattle.solution.proofs.Parted.{put-copied}
-use Rattle.solution.proofs.parts.copy_to.Statement.{statement}
-use Rattle.solution.proofs.parts.copy_to.Tie as tie
+use Rattle.settle.proofs.Parted.{put-copied}
+use Rattle.settle.proofs.parts.copy_to.Statement.{statement}
+use Rattle.settle.proofs.parts.copy_to.Tie as tie
 
 add-end : tie.Need-add-end
 add-end c = search needs

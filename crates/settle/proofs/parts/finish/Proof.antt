@@ -1,4 +1,4 @@
--- `solution::parts::finish` meets its contract.
+-- `settle::parts::finish` meets its contract.
 use borrow.Author.Needs.{needs}
 use native.Mathlib.Omega.{arith}
 use Prim.Native.Nat.{_+_, _-_, _≤_}
@@ -7,9 +7,9 @@ use lib.Ieee.{ofBits}
 use Rattle.rules.specs.Helpers.{one}
 use Rattle.rules.specs.Arithmetic.{_*ᶠ_}
 use Rattle.rules.proofs.Arithmetic.{Reached, reached-none, reached-more}
-use Rattle.solution.proofs.Parted.{finished-by, finished-not}
-use Rattle.solution.proofs.parts.finish.Statement.{statement}
-use Rattle.solution.proofs.parts.finish.Tie as tie
+use Rattle.settle.proofs.Parted.{finished-by, finished-not}
+use Rattle.settle.proofs.parts.finish.Statement.{statement}
+use Rattle.settle.proofs.parts.finish.Tie as tie
 
 abbrev Inv-loop : tie.InvT-loop
 Inv-loop m n byTau x₀ end by i₀ x i = Reached (λ k v. by *ᶠ v) i x₀ x × (end ≡ n + m) × (i ≤ end)

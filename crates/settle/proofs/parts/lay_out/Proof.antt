@@ -1,8 +1,8 @@
--- `solution::parts::lay_out` meets its contract.
+-- `settle::parts::lay_out` meets its contract.
 use borrow.Author.Needs.{needs}
-use Rattle.solution.proofs.Parted.{laid-first, laid-more}
-use Rattle.solution.proofs.parts.lay_out.Statement.{statement}
-use Rattle.solution.proofs.parts.lay_out.Tie as tie
+use Rattle.settle.proofs.Parted.{laid-first, laid-more}
+use Rattle.settle.proofs.parts.lay_out.Statement.{statement}
+use Rattle.settle.proofs.parts.lay_out.Tie as tie
 
 add-to-tau : tie.Need-add-to-tau
 add-to-tau c = search needs

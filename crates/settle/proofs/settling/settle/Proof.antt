@@ -1,12 +1,12 @@
--- `solution::settling::settle` meets its contract.
+-- `settle::settling::settle` meets its contract.
 use mathlib.Core.Path.{_≡_, sym, _∙_}
 use mathlib.Core.Bool.{true, false}
 use borrow.Author.Needs.{needs}
 use borrow.Author.Tests.{not-true, not-false}
-use Rattle.solution.specs.Settle.{settleFits}
-use Rattle.solution.proofs.Settled.{fits-fitting, settle-done, settle-refused}
-use Rattle.solution.proofs.settling.settle.Statement.{statement}
-use Rattle.solution.proofs.settling.settle.Tie as tie
+use Rattle.settle.specs.Settle.{settleFits}
+use Rattle.settle.proofs.Settled.{fits-fitting, settle-done, settle-refused}
+use Rattle.settle.proofs.settling.settle.Statement.{statement}
+use Rattle.settle.proofs.settling.settle.Tie as tie
 
 settle-fits-requires : tie.Need-settle-fits-requires
 settle-fits-requires c κs = search needs

@@ -15,7 +15,7 @@ use Rattle.rules.specs.Problem.{Problem, lengthX}
 use Rattle.rules.specs.Prepare.{zeros}
 use Rattle.rules.specs.Run.{finishedX, finalX, isScaled}
 use Rattle.rules.proofs.Parts.{put, drop-rest}
-use Rattle.solution.specs.Parts.{copiedTo}
+use Rattle.settle.specs.Parts.{copiedTo}
 
 pub cleared : (v : List Float) → each (λ k w. +0) v ≡ zeros (length v)
 unfolding each

@@ -11,7 +11,7 @@ ghost use lib.ListN.{length, drop};
 ghost use Rattle.rules.specs.Limits.{limit};
 ghost use Rattle.rules.specs.Problem.{workLength};
 ghost use Rattle.rules.specs.Prepare.{zeros};
-ghost use Rattle.solution.specs.Settle.{lengthsFit, Fitting, Settled, SettleOutcome};
+ghost use Rattle.settle.specs.Settle.{lengthsFit, Fitting, Settled, SettleOutcome};
 
 // A run's vectors come into work, with x and y over tau where the ending asks for it; after a cone's failure
 // the required part of work, and all of cone work, become +0. Where a length or a size doesn't fit, it answers

@@ -1,8 +1,8 @@
--- `solution::settling::settle_fits` meets its contract.
+-- `settle::settling::settle_fits` meets its contract.
 use borrow.Author.Needs.{needs}
 use borrow.Author.Tests.{le-leb, lt-leb, eq-eqb, ne-eqb}
-use Rattle.solution.proofs.settling.settle_fits.Statement.{statement}
-use Rattle.solution.proofs.settling.settle_fits.Tie as tie
+use Rattle.settle.proofs.settling.settle_fits.Statement.{statement}
+use Rattle.settle.proofs.settling.settle_fits.Tie as tie
 
 returns : tie.Need-returns
 returns c = rw (lt-leb _ _ (c .if1 .taken))

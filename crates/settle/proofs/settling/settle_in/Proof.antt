@@ -1,12 +1,12 @@
--- `solution::settling::settle_in` meets its contract.
+-- `settle::settling::settle_in` meets its contract.
 use mathlib.Core.Path.{refl, sym, ap, _∙_}
 use mathlib.Core.Bool.{Bool}
 use Rattle.rules.specs.Run.{finishedX}
-use Rattle.solution.proofs.Settled.{settled-failed, settled-laid}
+use Rattle.settle.proofs.Settled.{settled-failed, settled-laid}
 use borrow.Author.Needs.{needs}
 use native.Mathlib.Omega.{arith}
-use Rattle.solution.proofs.settling.settle_in.Statement.{statement}
-use Rattle.solution.proofs.settling.settle_in.Tie as tie
+use Rattle.settle.proofs.settling.settle_in.Statement.{statement}
+use Rattle.settle.proofs.settling.settle_in.Tie as tie
 
 is-cone-failure-requires : tie.Need-is-cone-failure-requires
 is-cone-failure-requires c κs = search needs

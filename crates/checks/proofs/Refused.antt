@@ -15,7 +15,7 @@ use Rattle.rules.specs.declared.Refusal.{Refusal}
 use Rattle.rules.specs.declared.Refusal.the-variants.{Accepted, Refused}
 use Rattle.rules.specs.Limits.{limit, mostWords}
 use Rattle.rules.specs.Blocks.{isBadCone}
-use Rattle.rules.specs.Refusals.{Fact, _when_, firstOf, asRefusal, badParam, largeSizes, wrongLengths, someInfinite, shortBuffers, refusal}
+use Rattle.rules.specs.Refusals.{Fact, _when_, firstOf, asRefusal, badParam, largeSizes, wrongLengths, someNotFinite, shortBuffers, refusal}
 use Rattle.rules.specs.Problem.{problemOf}
 
 neither : (a b : Bool) → a || b ≡ false → (a ≡ false) × (b ≡ false)
@@ -54,7 +54,7 @@ module _ (m n : ℕ) (storage : Storage) (c a b : List Float) (words : List ℕ)
       ∷ (TooLarge when largeSizes m n words)
       ∷ (InvalidOp when wrongLengths m n storage c a b)
       ∷ (BadCone when isBadCone words m)
-      ∷ (NotFinite when someInfinite c a b)
+      ∷ (NotFinite when someNotFinite c a b)
       ∷ (WorkShortage when shortBuffers m n words work cone)
       ∷ []
 

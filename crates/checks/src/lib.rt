@@ -12,7 +12,7 @@ use rules::Storage;
 ghost use Prim.Native.Nat.{_≤_};
 ghost use mathlib.Core.Path.{_≡_};
 ghost use Rattle.rules.specs.Limits.{limit};
-ghost use Rattle.rules.specs.Refusals.{isFinite, allFinite, badParam, largeSizes, wrongLengths, someInfinite, shortBuffers, refusal};
+ghost use Rattle.rules.specs.Refusals.{isFinite, allFinite, badParam, largeSizes, wrongLengths, someNotFinite, shortBuffers, refusal};
 ghost use Rattle.rules.specs.Problem.{problemOf, asRead};
 
 // The first test that applies.
@@ -122,7 +122,7 @@ fn invalid_op(m: usize, n: usize, storage: Storage, c: &[f64], a: &[f64], b: &[f
 }
 
 fn not_finite(c: &[f64], a: &[f64], b: &[f64]) -> bool
-    ensures { λ r. ⌜ r ≡ someInfinite (now (c .entry)) (now (a .entry)) (now (b .entry)) ⌝ }
+    ensures { λ r. ⌜ r ≡ someNotFinite (now (c .entry)) (now (a .entry)) (now (b .entry)) ⌝ }
 {
     if !all_finite(c) {
         return true;

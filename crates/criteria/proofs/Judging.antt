@@ -9,8 +9,8 @@ use Rattle.rules.specs.Criteria.{Judged as Ruled}
 use Rattle.rules.proofs.Matrices.{both-true}
 use Rattle.shape.specs.Fitting.{operatorsFit, fitsX, Fits, LikeX}
 use Rattle.shape.proofs.Fitting.{sizes-within, operators-fit, fits-of, x-fits, like-x}
-use Rattle.criteria.specs.declared.Judged.{Judged}
-use Rattle.criteria.specs.declared.Judged.the-variants.{Of, No}
+use Rattle.criteria.specs.declared.Judgement.{Judgement}
+use Rattle.criteria.specs.declared.Judgement.the-variants.{Of, No}
 use Rattle.criteria.specs.Judging.{judgeFits, JudgeOutcome}
 
 pub record AllFit (shape : Shape) (c a b x rx : List Float) : Type 0 where
@@ -34,8 +34,8 @@ pub judge-done : {fits : Bool} {ruled : Ruled} {rx rx' : List Float} {answer : C
 judge-done e says left = record { answered = rw (e, says); rx-left = rw e left }
 
 -- for a caller whose lengths fit
-pub judge-ruled : {fits : Bool} {ruled : Ruled} {rx rx' : List Float} {answer : Judged} → JudgeOutcome fits ruled rx answer rx' → fits ≡ true → (answer ≡ Of (ruled .criteria)) × (rx' ≡ ruled .rx)
+pub judge-ruled : {fits : Bool} {ruled : Ruled} {rx rx' : List Float} {answer : Judgement} → JudgeOutcome fits ruled rx answer rx' → fits ≡ true → (answer ≡ Of (ruled .criteria)) × (rx' ≡ ruled .rx)
 judge-ruled o e = (rw e at (o .answered), rw e at (o .rx-left))
 
-pub judge-outcomes-coincide : {fits : Bool} {ruled : Ruled} {rx : List Float} {a b : Judged} {v w : List Float} → JudgeOutcome fits ruled rx a v → JudgeOutcome fits ruled rx b w → (a ≡ b) × (v ≡ w)
+pub judge-outcomes-coincide : {fits : Bool} {ruled : Ruled} {rx : List Float} {a b : Judgement} {v w : List Float} → JudgeOutcome fits ruled rx a v → JudgeOutcome fits ruled rx b w → (a ≡ b) × (v ≡ w)
 judge-outcomes-coincide p q = (p .answered ∙ sym (q .answered), p .rx-left ∙ sym (q .rx-left))

@@ -23,7 +23,7 @@ ghost use Rattle.criteria.specs.Residuals.{primalAt, dualAt, rayAt, dual
 ghost use Rattle.criteria.specs.Judging.{judgeFits, JudgeOutcome};
 
 // What a step's criteria are, or a plain no.
-pub enum Judged {
+pub enum Judgement {
     Of(Criteria),
     No,
 }
@@ -39,14 +39,14 @@ pub fn judge(
     norms: Norms,
     x: &[f64],
     rx: &mut [f64],
-) -> Judged
+) -> Judgement
     ensures { λ r. ⌜ JudgeOutcome (judgeFits shape (now (c .entry)) (now (a .entry)) (now (b .entry)) (now (x .entry)) (now (rx .entry))) (judged (embedIn shape (now (c .entry)) (now (a .entry)) (now (b .entry))) (par .«eps_zero») norms (now (x .entry)) (now (rx .entry))) (now (rx .entry)) r (now (rx .exit)) ⌝ }
 {
     if !fits(shape, c, a, b, x, rx) {
-        return Judged::No;
+        return Judgement::No;
     }
     let r = judge_by_tau(par, shape, c, a, b, norms, x, rx);
-    Judged::Of(r)
+    Judgement::Of(r)
 }
 
 // The criteria of convergence where tau is above eps_zero, else the two others.

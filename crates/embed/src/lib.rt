@@ -8,9 +8,8 @@ ghost use mathlib.Core.Path.{_≡_};
 ghost use lib.ListN.{length};
 ghost use Rattle.rules.specs.Outcome.{Outcome};
 ghost use Rattle.rules.specs.Problem.{embedIn};
-ghost use Rattle.rules.specs.Step.{opK};
+ghost use Rattle.rules.specs.Step.{opK, onN, onM, on1};
 ghost use Rattle.shape.specs.Fitting.{embedFits, Fits, LikeX, LikeY};
-ghost use Rattle.embed.specs.Operator.{onN, onM, on1};
 
 // y becomes alpha * K * x + beta * y. Where a length or a size doesn't fit, it answers no and changes nothing.
 pub fn op(

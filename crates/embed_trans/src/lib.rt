@@ -8,9 +8,8 @@ ghost use mathlib.Core.Path.{_≡_};
 ghost use lib.ListN.{length};
 ghost use Rattle.rules.specs.Outcome.{Outcome};
 ghost use Rattle.rules.specs.Problem.{embedIn};
-ghost use Rattle.rules.specs.Step.{transOpK};
+ghost use Rattle.rules.specs.Step.{transOpK, backX, backY, backS, backTau};
 ghost use Rattle.shape.specs.Fitting.{embedFits, Fits, LikeX, LikeY};
-ghost use Rattle.embed_trans.specs.Operator.{backX, backY, backS, backTau};
 
 // x becomes alpha * K transposed * y + beta * x. Where a length or a size doesn't fit, it answers no and changes nothing.
 pub fn trans_op(

@@ -21,6 +21,6 @@ pub record IsPair (n i j : ℕ) : Type 0 where
   pub rising : i < j
   pub inside : j < n
 
--- more rotations than any run makes, and far fewer than a count holds
+-- more rotations than one call makes, and far fewer than a count holds
 abbrev pub mostRotations : ℕ
 mostRotations = mostSweeps * (limit * limit)

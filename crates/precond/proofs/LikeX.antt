@@ -20,7 +20,8 @@ use Rattle.rules.proofs.Outcome.{ruled-if-fits}
 use Rattle.rules.proofs.Parts.{put, next-put, part-after, places}
 use Rattle.rules.proofs.Lengths.{sumsX-length, sumsY-length, sumsS-length, sumsTau-length}
 use Rattle.precond.proofs.Fitting.{list-fits}
-use Rattle.precond.specs.Precond.{shapeOf, Covers, columnSums, rowSums, rowsOf, groupedParts}
+use Rattle.rules.specs.Problem.{shapeOf}
+use Rattle.precond.specs.Precond.{Covers, columnSums, rowSums, rowsOf, groupedParts}
 
 -- what a caller whose list of blocks has all places learns
 pub group-ruled : {shape : Shape} {words : List ℕ} {xs ruled : List Float} {answer : Bool} {after : List Float} → Covers shape words → shape .rows .0 ≤ limit → length xs ≡ shape .rows .0 → Outcome (listFits words xs) ruled xs answer after → after ≡ ruled

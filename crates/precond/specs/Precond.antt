@@ -10,14 +10,10 @@ use Rattle.rules.specs.Vectors.{added}
 use Rattle.rules.specs.Matrices.{absaddedCols, absaddedRows}
 use Rattle.rules.specs.Blocks.{blocksOf, isBadCone}
 use Rattle.rules.specs.Product.{groupAll}
-use Rattle.rules.specs.Problem.{Problem, Embed, column}
+use Rattle.rules.specs.Problem.{Problem, Embed, column, shapeOf}
 use Rattle.rules.specs.Step.{part}
 use Rattle.rules.specs.Prepare.{sumsX, sumsY, sumsS, sumsTau, dpTauOf, dpSigmaOf}
 use Rattle.shape.specs.Fitting.{operatorsFit, fitsX, fitsY}
-
--- the sizes and the storage of a problem
-abbrev pub shapeOf : Problem → Shape
-shapeOf p = record { rows = record { 0 = p .m }; cols = record { 0 = p .n }; storage = p .storage }
 
 -- c, A and b have the lengths that the sizes ask, and the cone list is no BadCone for m places
 abbrev pub problemFits : Problem → Bool

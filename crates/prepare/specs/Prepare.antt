@@ -9,7 +9,8 @@ use Rattle.rules.specs.Vectors.{scaled}
 use Rattle.rules.specs.Problem.{Problem, Embed, embed}
 use Rattle.rules.specs.Prepare.{norms, startX, dpTauOf, dpSigmaOf}
 use Rattle.shape.specs.Fitting.{fitsX, fitsY}
-use Rattle.precond.specs.Precond.{shapeOf, precondFits}
+use Rattle.rules.specs.Problem.{shapeOf}
+use Rattle.precond.specs.Precond.{precondFits}
 use Rattle.prepare.specs.declared.Prepared.{Prepared}
 use Rattle.prepare.specs.declared.Prepared.the-variants.{Done, No}
 

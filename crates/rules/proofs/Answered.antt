@@ -106,7 +106,7 @@ carries-the-criteria par k failure criteria x h =
     verdict-cases (λ e. CarriedOn criteria (onPaper e)) par k failure criteria x
     (record {
       failing = λ b f. tt;
-      converging = λ pri dual gap f c. (rw c, rw c);
+      converging = λ pri dual gap f c. (rw c (inl refl, refl), rw c (inr refl, refl));
       diverging = λ unbdd infeas f c. (rw c (inr (inl (refl, refl))), rw c (inr (inr (refl, refl))), rw c (inl (refl, refl)));
     })
     h

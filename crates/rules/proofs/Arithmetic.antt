@@ -1,4 +1,4 @@
--- Laws of the two combinators, in the order in which a loop's proof uses them: before the first wholeStep, at a wholeStep, after the last.
+-- Laws of the two combinators, in the order in which a loop's proof uses them: before the first pass, at a pass, after the last.
 use Prim.Native.Nat.{ℕ, zero, suc, _+_, _<_, _≤_}
 use native.Mathlib.Numerals.{add-one}
 use native.Mathlib.Omega.{arith}
@@ -37,7 +37,7 @@ eachTo-length f zero xs = refl
 eachTo-length f (suc n) [] = refl
 eachTo-length f (suc n) (x ∷ xs) = ap suc (eachTo-length (λ k v. f (suc k) v) n xs)
 
--- a place that no wholeStep has reached yet
+-- a place that no pass has reached yet
 pub eachTo-later : (f : ℕ → Float → Float) (n : ℕ) (xs : List Float) (i : ℕ) → n ≤ i → at (eachTo f n xs) i ≡ at xs i
 unfolding eachTo
 eachTo-later f zero xs i h = refl
@@ -45,7 +45,7 @@ eachTo-later f (suc n) [] i h = refl
 eachTo-later f (suc n) (x ∷ xs) zero h = absurd (omega arith)
 eachTo-later f (suc n) (x ∷ xs) (suc i) h = eachTo-later (λ k v. f (suc k) v) n xs i (omega arith)
 
--- a place that a wholeStep has reached
+-- a place that a pass has reached
 pub eachTo-at : (f : ℕ → Float → Float) (n : ℕ) (xs : List Float) (i : ℕ) → i < n → i < length xs → at (eachTo f n xs) i ≡ f i (at xs i)
 unfolding eachTo
 eachTo-at f n [] i h l = absurd (omega arith)
@@ -97,13 +97,13 @@ pub record Reached (f : ℕ → Float → Float) (n : ℕ) (xs ys : List Float) 
 pub reached-none : (f : ℕ → Float → Float) (xs : List Float) → Reached f 0 xs xs
 reached-none f xs = record { is = sym (each-none f xs); same = refl; within = omega arith }
 
--- a wholeStep stores f of what the place held
+-- a pass stores f of what the place held
 pub reached-more : {f : ℕ → Float → Float} {n : ℕ} {xs ys : List Float} → Reached f n xs ys → n < length xs → Reached f (n + 1) xs (set ys n (f n (at ys n)))
 reached-more {f} {n} {xs} {ys} r h =
     let e : set ys n (f n (at ys n)) ≡ eachTo f (n + 1) xs = rw (r .is, eachTo-later f n xs n (omega arith)) (each-more f n xs h) in
     record { is = e; same = ap length e ∙ eachTo-length f (n + 1) xs; within = omega arith }
 
--- after the last wholeStep every place has been reached
+-- after the last pass every place has been reached
 pub reached-all : {f : ℕ → Float → Float} {n : ℕ} {xs ys : List Float} → Reached f n xs ys → length xs ≤ n → ys ≡ each f xs
 reached-all {f} {n} {xs} {ys} r h = r .is ∙ each-all f n xs h
 

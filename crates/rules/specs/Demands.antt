@@ -65,6 +65,8 @@ pub record TurnedAwayExactly (p : Problem) (work cone : List Float) : Type 0 whe
   pub none-otherwise : NoneHolds (facts p (length work) (length cone)) → numberOf (solved p work cone .answer .ending) ≡ 0
   pub changes-nothing : (i : ℕ) → FirstToHold (facts p (length work) (length cone)) i → solved p work cone ≡ turnedAway (solved p work cone .answer .ending) work cone
 
+-- ---- demand 2: `solve` promises `SolveOutcome` (Refusals.antt), that answer and buffers are those of `solved`
+
 -- ---- demand 3, for the problem as the run reads it: "Against 01's step rules written without stopping"
 
 -- From any state: the i-th further step, from 1, what it says when k steps were behind, and the rotations up to it.
@@ -78,7 +80,7 @@ unfoldable pub rotationsFrom : Problem → Norms → State → ℕ → ℕ
 rotationsFrom p ns s zero = 0
 rotationsFrom p ns s (suc i) = rotationsFrom p ns s i + stepFrom p ns s (suc i) .rotations
 
--- A piece makes a number of steps. It halts after as many as it was given, all of which go on, or at the first that does not.
+-- A piece makes a number of steps. It stops at the first step that does not go on, or halts after as many as it was given, all of which go on.
 pub record GoesByTheRules (given : ℕ) (p : Problem) (ns : Norms) (k q : ℕ) (s : State) (c : Piece) : Type 0 where
   pub made : ℕ
   pub at-most : made ≤ given
@@ -167,7 +169,7 @@ pub data StopsAt (p : Problem) (k : ℕ) : Type 0 where
 
 -- "Each ending carries the criteria that decided it as numbers": of a step's criteria those that a row of the table carries
 abbrev pub CarriedAt : Criteria → ℕ → List Float → Type 0
-CarriedAt (Conv pri dual gap) row carried = carried ≡ pri ∷ dual ∷ gap ∷ []
+CarriedAt (Conv pri dual gap) row carried = ((row ≡ 1) ⊎ (row ≡ 2)) × (carried ≡ pri ∷ dual ∷ gap ∷ [])
 CarriedAt (Inf unbdd infeas) row carried =
     ((row ≡ 3) × (carried ≡ unbdd ∷ infeas ∷ [])) ⊎ (((row ≡ 4) × (carried ≡ unbdd ∷ [])) ⊎ ((row ≡ 5) × (carried ≡ infeas ∷ [])))
 

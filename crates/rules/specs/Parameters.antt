@@ -9,7 +9,7 @@ use Rattle.rules.specs.declared.SolverParam.{SolverParam}
 abbrev pub oneOver : ℕ → Float
 oneOver n = round binary64 false 1 n
 
--- the parameters with these limits and tolerances, and the same but for eps_zero: the two places where parameters are made
+-- the parameters with these limits and tolerances, and the same but for eps_zero: the one place where parameters are made, and its use
 abbrev pub paramOf : ℕ → Float → Float → Float → ℕ → SolverParam
 paramOf maxIter epsAcc epsInf epsZero sweepLimit =
     record {

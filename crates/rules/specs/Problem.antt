@@ -34,6 +34,10 @@ problemOf m n storage c a b words par =
 abbrev pub problemIn : Shape → List Float → List Float → List Float → List ℕ → SolverParam → Problem
 problemIn shape c a b words par = problemOf (shape .rows .0) (shape .cols .0) (shape .storage) c a b words par
 
+-- the sizes and the storage of a problem
+abbrev pub shapeOf : Problem → Shape
+shapeOf p = record { rows = record { 0 = p .m }; cols = record { 0 = p .n }; storage = p .storage }
+
 abbrev pub matrixOf : Storage → ℕ → ℕ → MatType
 matrixOf Dense m n = General (record { 0 = m }) (record { 0 = n })
 matrixOf Packed m n = SymPack (record { 0 = m })

@@ -75,12 +75,12 @@ unfolding isBadCone readProblem
 badCone p = isBadCone (readProblem p .words) (readProblem p .m)
 
 -- 5: "a number of c, A or b is infinite or NaN"
-abbrev pub someInfinite : List Float → List Float → List Float → Bool
-someInfinite c a b = not (allFinite c) || not (allFinite a) || not (allFinite b)
+abbrev pub someNotFinite : List Float → List Float → List Float → Bool
+someNotFinite c a b = not (allFinite c) || not (allFinite a) || not (allFinite b)
 
 unfoldable pub notFinite : Problem → Bool
 unfolding allFinite
-notFinite p = someInfinite (p .c) (p .a) (p .b)
+notFinite p = someNotFinite (p .c) (p .a) (p .b)
 
 -- 6: "either buffer too short", for the problem as it is read
 abbrev pub shortBuffers : ℕ → ℕ → List ℕ → ℕ → ℕ → Bool

@@ -5,7 +5,7 @@ use mathlib.Core.Bool.{Bool, true, false, not, cond}
 use lib.Dec.{T, leb}
 use lib.Ieee.{Float, nan, inf, fin, Format, prec, low, up, down, size, nearest, units, fits}
 
--- The largest r with r * r at most n, one binary digit a wholeStep: n is below 4 ^ d.
+-- The largest r with r * r at most n, one binary digit at a time: n is below 4 ^ d.
 unfoldable pub rootDigits : ℕ → ℕ → ℕ
 rootDigits zero n = 0
 rootDigits (suc d) n = let r = 2 * rootDigits d (n / 4) in cond (leb ((r + 1) * (r + 1)) n) (r + 1) r
@@ -47,13 +47,13 @@ inSquaredUnits f nan = 0
 inSquaredUnits f (inf s) = 0
 inSquaredUnits f (fin s m e) = m * up e * (2 ^ low f * 2 ^ low f) / down e
 
--- finite, and not negative
+-- +0, or a finite number above it
 unfoldable pub isNumber : Float → Bool
 isNumber nan = false
 isNumber (inf s) = false
 isNumber (fin s m e) = not s
 
--- r is a number of the format f, and every other one, y, lies farther from √x. In whole numbers: √x is nearer to r than to a y above r where it is
+-- Of a finite x of the format f, above 0: r is a number of the format, and every other one, y, lies farther from √x. In whole numbers: √x is nearer to r than to a y above r where it is
 -- below the middle between the two, (r + y) / 2, which is said with both sides doubled and squared; and so for a y below.
 pub record NoneNearer (f : Format) (x r : Float) : Type 0 where
   pub number : T (isNumber r)

@@ -100,7 +100,7 @@ pub record Ended : Type 0 where
   pub rotations : ℕ
   pub state : State
 
--- a piece with all of the allowance, which is met before the piece could halt
+-- the ending of a piece that has one; a piece with all of the allowance has, since that is met before it could halt
 abbrev pub endingOf : Verdict → Ending
 endingOf GoesOn = ConeFailure 0
 endingOf (Ends e) = e
@@ -155,7 +155,7 @@ solutionX n work = cond (leb n (length work)) (take n work) []
 unfoldable pub solutionY : ℕ → ℕ → List Float → List Float
 solutionY m n work = cond (leb (n + m) (length work)) (take m (drop n work)) []
 
--- all of work
+-- the required part of work
 abbrev pub laidOut : Problem → Ending → State → List Float
 laidOut p e s = finalX p e (s .x) ++ s .y ++ s .dpTau ++ s .dpSigma ++ s .rx ++ s .tx
 

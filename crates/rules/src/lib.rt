@@ -109,13 +109,7 @@ impl SolverParam {
     pub fn with_eps_zero(par: SolverParam, eps: f64) -> SolverParam
         ensures { λ r. ⌜ r ≡ withEpsZero par eps ⌝ }
     {
-        SolverParam {
-            max_iter: par.max_iter,
-            eps_acc: par.eps_acc,
-            eps_inf: par.eps_inf,
-            eps_zero: eps,
-            sweep_limit: par.sweep_limit,
-        }
+        SolverParam::of(par.max_iter, par.eps_acc, par.eps_inf, eps, par.sweep_limit)
     }
 }
 

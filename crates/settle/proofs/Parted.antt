@@ -46,7 +46,7 @@ pub laid-more : {new w w' w'' : List Float} {a : ℕ} (v : List Float) → Laid 
 laid-more {new} {w} {w'} {w''} {a} v l e =
     record { is = rw (l .is) at e ∙ copied-next a v new w (l .to); to = length-append new v ∙ rw (l .to) }
 
--- x and y over tau, or neither: the first places are multiplied in one pass
+-- x and y times 1/tau, or neither: the first places are multiplied in one pass
 times-first : (by : Float) (m : ℕ) (x : List Float) → m ≤ length x → eachTo (λ k v. by *ᶠ v) m x ≡ scaled by (take m x) ++ drop m x
 unfolding scaled each eachTo
 times-first by zero x h = refl

@@ -13,14 +13,14 @@ use Rattle.rules.specs.Prepare.{zeros}
 use Rattle.rules.specs.Run.{isScaled, isConeFailure, finishedX}
 
 -- the sizes are within the limits, and the vectors have the lengths that they say
-abbrev pub lengthsFit : ℕ → ℕ → ℕ → ℕ → ℕ → ℕ → ℕ → ℕ → ℕ → Bool
-lengthsFit m n x y dpTau dpSigma rx tx work =
+abbrev pub settleLengthsFit : ℕ → ℕ → ℕ → ℕ → ℕ → ℕ → ℕ → ℕ → ℕ → Bool
+settleLengthsFit m n x y dpTau dpSigma rx tx work =
     leb m limit && leb n limit && eqb x (lengthX m n) && eqb y (lengthY m n) && eqb dpTau (lengthX m n) && eqb dpSigma (lengthY m n)
     && eqb rx (lengthX m n) && eqb tx (lengthX m n) && leb (workLength m n) work
 
 module _ (m n : ℕ) (x y dpTau dpSigma rx tx work : List Float) where
   unfoldable pub settleFits : Bool
-  settleFits = lengthsFit m n (length x) (length y) (length dpTau) (length dpSigma) (length rx) (length tx) (length work)
+  settleFits = settleLengthsFit m n (length x) (length y) (length dpTau) (length dpSigma) (length rx) (length tx) (length work)
 
   pub record Fitting : Type 0 where
     pub m-within : m ≤ limit

@@ -8,7 +8,7 @@ ghost use Rattle.rules.specs.Prepare.{zeros};
 ghost use Rattle.rules.specs.Run.{finishedX};
 ghost use Rattle.settle.specs.Parts.{copiedTo};
 
-// x and y over tau, where the ending asks for it.
+// x and y times 1/tau, where the ending asks for it.
 pub(crate) fn finish(m: usize, n: usize, by_tau: bool, x: &mut [f64])
     requires { ⌜ length (now x) ≡ lengthX m n ⌝ }
     ensures { λ _. ⌜ now (x .exit) ≡ finishedX m n «by_tau» (now (x .entry)) ⌝ }

@@ -11,9 +11,9 @@ ghost use lib.ListN.{length, drop};
 ghost use Rattle.rules.specs.Limits.{limit};
 ghost use Rattle.rules.specs.Problem.{workLength};
 ghost use Rattle.rules.specs.Prepare.{zeros};
-ghost use Rattle.settle.specs.Settle.{lengthsFit, Fitting, Settled, SettleOutcome};
+ghost use Rattle.settle.specs.Settle.{settleLengthsFit, Fitting, Settled, SettleOutcome};
 
-// A run's vectors come into work, with x and y over tau where the ending asks for it; after a cone's failure
+// A run's vectors come into work, with x and y times 1/tau where the ending asks for it; after a cone's failure
 // the required part of work, and all of cone work, become +0. Where a length or a size doesn't fit, it answers
 // no and changes nothing.
 pub fn settle(
@@ -73,7 +73,7 @@ fn settle_fits(
     tx: usize,
     work: usize,
 ) -> bool
-    ensures { λ r. ⌜ r ≡ lengthsFit m n x y «dp_tau» «dp_sigma» rx tx work ⌝ }
+    ensures { λ r. ⌜ r ≡ settleLengthsFit m n x y «dp_tau» «dp_sigma» rx tx work ⌝ }
 {
     if LIMIT < m {
         return false;

@@ -1,4 +1,4 @@
--- A step with its verdict is the rule's wholeStep, and a loop over such steps the rule's run.
+-- A step with its verdict is the rule's whole step, and a loop over such steps the rule's run.
 use Prim.Native.Nat.{ℕ, suc, _+_, _-_, _*_, _<_, _≤_}
 use native.Mathlib.Omega.{arith}
 use mathlib.Core.Path.{_≡_, refl, sym, _∙_, ap}
@@ -26,7 +26,7 @@ use Rattle.project.specs.Project.{ConesReady}
 use Rattle.step.specs.Update.{stateOf, StepOutcome}
 use Rattle.project.proofs.Cones.{pass-rotations, answer-done, answer-failed, answer-some}
 use Rattle.step.proofs.Updated.{none-left}
-use Rattle.solver.specs.declared.run.Stepped.{Stepped}
+use Rattle.solver.specs.declared.run.StepAnswer.{StepAnswer}
 use Rattle.solver.specs.Run.{SteppedBy, Iterated}
 
 -- ---- one step
@@ -137,7 +137,7 @@ running-start p ns s =
     let same : suc (allowance (p .par) - 1) ≡ allowance (p .par) = omega arith in
     record { least = omega arith; most = omega arith; within = omega arith; left = rw same }
 
-module _ {p : Problem} {ns : Norms} {from : State} {k q : ℕ} {s : State} {r : Stepped} {to : State} (g : Running p ns from k q s) (t : SteppedBy p ns k s r to) where
+module _ {p : Problem} {ns : Norms} {from : State} {k q : ℕ} {s : State} {r : StepAnswer} {to : State} (g : Running p ns from k q s) (t : SteppedBy p ns k s r to) where
   pub running-counts : {c : ℕ} → ConesReady (p .par) (p .m) (p .words) c → r .rotations ≤ perStep
   running-counts ready = omega (arith, t .counts, step-within p ns s ready)
 

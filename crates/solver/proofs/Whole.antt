@@ -18,7 +18,8 @@ use Rattle.rules.specs.Prepare.{prepared, preparedNorms, zeros}
 use Rattle.rules.specs.Run.{run, runFrom, allowance, laidOut, isConeFailure}
 use Rattle.rules.proofs.Lengths.{prepared-sized}
 use Rattle.shape.specs.Fitting.{LikeX, LikeY}
-use Rattle.precond.specs.Precond.{shapeOf, Covers}
+use Rattle.rules.specs.Problem.{shapeOf}
+use Rattle.precond.specs.Precond.{Covers}
 use Rattle.step.specs.Update.{stateOf}
 use Rattle.settle.specs.Settle.{Settled}
 use Rattle.settle.proofs.Parted.{final-finished}

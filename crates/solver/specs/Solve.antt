@@ -18,7 +18,8 @@ use Rattle.rules.specs.Problem.{Problem, embed, blocks, lengthX, lengthY, workL
 use Rattle.rules.specs.Prepare.{norms, startX, dpTauOf, dpSigmaOf, zeros}
 use Rattle.rules.specs.Run.{run, laidOut, isConeFailure, leftBy}
 use Rattle.shape.specs.Fitting.{Fits, LikeX, LikeY}
-use Rattle.precond.specs.Precond.{shapeOf, Covers}
+use Rattle.rules.specs.Problem.{shapeOf}
+use Rattle.precond.specs.Precond.{Covers}
 
 -- a problem that was not turned away, as the run reads it
 pub record Ready (p : Problem) : Type 0 where

@@ -1,5 +1,5 @@
 // What the criteria of a step say of the run.
-use criteria::Judged;
+use criteria::Judgement;
 use rules::Criteria;
 use rules::Ending;
 use rules::Norms;
@@ -33,9 +33,9 @@ pub(crate) fn judge(
 {
     let j = criteria::judge(par, shape, c, a, b, norms, x, rx);
     match j {
-        Judged::Of(found) => says(par, k, found),
+        Judgement::Of(found) => says(par, k, found),
         // the sizes always fit here
-        Judged::No => Verdict::Ends(Ending::ConeFailure(0)),
+        Judgement::No => Verdict::Ends(Ending::ConeFailure(0)),
     }
 }
 

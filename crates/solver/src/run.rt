@@ -15,7 +15,7 @@ ghost use Rattle.step.specs.Update.{stateOf, StepReady};
 ghost use Rattle.solver.specs.Run.{SteppedBy, Iterated};
 
 // A step's verdict, with the rotations that it made.
-pub struct Stepped {
+pub struct StepAnswer {
     pub verdict: Verdict,
     pub rotations: u64,
 }
@@ -95,7 +95,7 @@ fn step_on(
     rx: &mut [f64],
     tx: &mut [f64],
     cone_work: &mut [f64],
-) -> Stepped
+) -> StepAnswer
     requires { ⌜ StepReady par shape (now c) (now a) (now b) (now words) (stateOf (now x) (now y) (now «dp_tau») (now «dp_sigma») (now rx) (now tx) (now «cone_work»)) ⌝ }
     ensures { λ r. ⌜ SteppedBy (problemIn shape (now (c .entry)) (now (a .entry)) (now (b .entry)) (now (words .entry)) par) norms k (stateOf (now (x .entry)) (now (y .entry)) (now («dp_tau» .entry)) (now («dp_sigma» .entry)) (now (rx .entry)) (now (tx .entry)) (now («cone_work» .entry))) r (stateOf (now (x .exit)) (now (y .exit)) (now («dp_tau» .entry)) (now («dp_sigma» .entry)) (now (rx .exit)) (now (tx .exit)) (now («cone_work» .exit))) ⌝ }
 {
@@ -117,19 +117,19 @@ fn step_on(
     match p {
         Product::Done(q) => {
             let v = judge::judge(par, shape, c, a, b, norms, k, x, rx);
-            Stepped {
+            StepAnswer {
                 verdict: v,
                 rotations: q,
             }
         }
         Product::Failed(block, q) => {
-            Stepped {
+            StepAnswer {
                 verdict: Verdict::Ends(Ending::ConeFailure(block)),
                 rotations: q,
             }
         }
         // the sizes always fit here
-        Product::No => Stepped {
+        Product::No => StepAnswer {
             verdict: Verdict::Ends(Ending::ConeFailure(0)),
             rotations: 0,
         },

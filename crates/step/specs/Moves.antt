@@ -31,7 +31,7 @@ pub record XMoved (k : Embed) (x y dpTau tx x' rx' tx' : List Float) : Type 0 wh
 
 -- ---- tau
 
--- tau, the place after n + m + m, taken
+-- the place of tau, and tau taken at 0
 abbrev pub tauPlace : Shape → ℕ
 tauPlace shape = shape .cols .0 + shape .rows .0 + shape .rows .0
 

@@ -19,7 +19,8 @@ abbrev pub stateOf : List Float → List Float → List Float → List Float →
 stateOf x y dpTau dpSigma rx tx cone =
     record { x = x; y = y; dpTau = dpTau; dpSigma = dpSigma; rx = rx; tx = tx; cone = cone }
 
--- A step that a cone's failure stopped: x is moved and its blocks are projected up to the one that failed; tau and y are as they were.
+-- A step that a cone's failure stopped: x, and tau with it, is moved, and its blocks are projected up to the one that failed; tau is not yet taken at 0; rx
+-- holds the old x, tx what the operator gave; y is as it was.
 unfoldable pub stopped : Problem → State → State
 unfolding movedX projected
 stopped p s =

@@ -4,7 +4,7 @@ use mathlib.Core.Path.{_≡_, sym, _∙_}
 use mathlib.Core.Bool.{false}
 use Rattle.rules.specs.declared.Refusal.{Refusal}
 use Rattle.rules.specs.Blocks.{isBadCone}
-use Rattle.rules.specs.Refusals.{badParam, largeSizes, wrongLengths, someInfinite, shortBuffers, refusal}
+use Rattle.rules.specs.Refusals.{badParam, largeSizes, wrongLengths, someNotFinite, shortBuffers, refusal}
 use Rattle.rules.specs.Problem.{problemOf}
 use Rattle.checks.proofs.Refused.{sizes-within, Answers, here, past, none-left, table, answers}
 use Rattle.checks.proofs.check.Statement.{statement}
@@ -26,7 +26,7 @@ no-3 c = sym (c .before .invalid-op .ensures) ∙ c .if3 .left
 no-4 : (c : tie.Else4) → isBadCone (c .before .before .before .before .before .before .before .before .before .before .before .before .before .args .words .now) (c .before .before .before .before .before .before .before .before .before .before .before .before .before .args .rows .0) ≡ false
 no-4 c = sym (c .before .before .is-bad-cone .ensures) ∙ c .if4 .left
 
-no-5 : (c : tie.Else5) → someInfinite (c .before .before .before .before .before .before .before .before .before .before .before .before .before .before .args .c .now) (c .before .before .before .before .before .before .before .before .before .before .before .before .before .before .args .a .now) (c .before .before .before .before .before .before .before .before .before .before .before .before .before .before .args .b .now) ≡ false
+no-5 : (c : tie.Else5) → someNotFinite (c .before .before .before .before .before .before .before .before .before .before .before .before .before .before .args .c .now) (c .before .before .before .before .before .before .before .before .before .before .before .before .before .before .args .a .now) (c .before .before .before .before .before .before .before .before .before .before .before .before .before .before .args .b .now) ≡ false
 no-5 c = sym (c .before .before .not-finite .ensures) ∙ c .if5 .left
 
 no-6 : (c : tie.Else6) → shortBuffers (c .before .before .before .before .before .before .before .before .before .before .before .before .before .before .before .before .args .rows .0) (c .before .before .before .before .before .before .before .before .before .before .before .before .before .before .before .before .args .cols .0) (c .before .before .before .before .before .before .before .before .before .before .before .before .before .before .before .before .args .words .now) (c .before .before .before .before .before .before .before .before .before .before .before .before .before .before .before .before .args .work) (c .before .before .before .before .before .before .before .before .before .before .before .before .before .before .before .before .args .cone-work) ≡ false

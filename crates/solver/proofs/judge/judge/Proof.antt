@@ -6,7 +6,7 @@ use borrow.Author.Needs.{needs}
 use Rattle.rules.specs.declared.Criteria.{Criteria}
 use Rattle.rules.specs.Product.{none}
 use Rattle.rules.specs.Run.{verdict}
-use Rattle.criteria.specs.declared.Judged.the-variants.{Of, No}
+use Rattle.criteria.specs.declared.Judgement.the-variants.{Of, No}
 use Rattle.criteria.proofs.Judging.{judge-fits, judge-ruled}
 use Rattle.solver.proofs.judge.judge.Statement.{statement}
 use Rattle.solver.proofs.judge.judge.Tie as tie

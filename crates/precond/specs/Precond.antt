@@ -15,7 +15,7 @@ use Rattle.rules.specs.Step.{part}
 use Rattle.rules.specs.Prepare.{sumsX, sumsY, sumsS, sumsTau, dpTauOf, dpSigmaOf}
 use Rattle.shape.specs.Fitting.{operatorsFit, fitsX, fitsY}
 
--- c, A and b have the lengths that the sizes ask, and the cone list is no BadCone for m places
+-- the sizes are within the limits, c, A and b have the lengths that they ask, and the cone list is no BadCone for m places
 abbrev pub problemFits : Problem → Bool
 problemFits p = operatorsFit (shapeOf p) (p .c) (p .a) (p .b) && not (isBadCone (p .words) (p .m))
 

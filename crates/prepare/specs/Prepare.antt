@@ -14,7 +14,7 @@ use Rattle.precond.specs.Precond.{precondFits}
 use Rattle.prepare.specs.declared.Prepared.{Prepared}
 use Rattle.prepare.specs.declared.Prepared.the-variants.{Done, No}
 
--- the problem, x, y and the two diagonals have the lengths that the sizes ask, and the cone list is no BadCone
+-- the sizes are within the limits, the problem, x, y and the two diagonals have the lengths that they ask, and the cone list is no BadCone
 abbrev pub prepareFits : Problem → List Float → List Float → List Float → List Float → Bool
 prepareFits p x y tau sigma = fitsX (shapeOf p) x && fitsY (shapeOf p) y && precondFits p tau sigma
 

@@ -123,7 +123,7 @@ blockWork (SOC size) = 0
 blockWork (RotSOC size) = 0
 blockWork (PSD order) = order + order * order
 
--- a block within the limit, for that many places and that much cone work
+-- a block within the limit, for that many places and that much cone work, and a sweep limit within its range
 abbrev pub sizesFit : SolverParam → Cone → ℕ → ℕ → Bool
 sizesFit par b size work = leb (places b) limit && eqb size (places b) && leb (blockWork b) work && sweepsFit par
 

@@ -27,7 +27,7 @@ pub record Sized (shape : Shape) (a : List Float) : Type 0 where
   pub cols : nCol (matrixIn shape) ≡ shape .cols .0
   pub stored : Stored (matrixIn shape) a
 
--- A is stored as the shape says, a packed one with as many columns as rows, and c and b have a number for each column and each row
+-- the sizes are within the limits, A is stored as the shape says, a packed one with as many columns as rows, and c and b have a number for each column and each row
 abbrev pub operatorsFit : Shape → List Float → List Float → List Float → Bool
 operatorsFit shape c a b =
     eqb (nCol (matrixIn shape)) (shape .cols .0) && eqb (length c) (shape .cols .0) && eqb (length b) (shape .rows .0)

@@ -39,7 +39,7 @@ pub fn is_within(shape: Shape) -> bool
     shape.cols.0 <= LIMIT
 }
 
-// Whether a vector is like x (n, m, m, 1).
+// Whether a vector is like x (n, m, m, 1), of sizes within the limits.
 pub fn fits_x(shape: Shape, v: &[f64]) -> bool
     ensures { λ r. ⌜ r ≡ fitsX shape (now (v .entry)) ⌝ }
 {
@@ -51,7 +51,7 @@ pub fn fits_x(shape: Shape, v: &[f64]) -> bool
     v.len() == n + m + m + 1
 }
 
-// Whether a vector is like y (n, m, 1).
+// Whether a vector is like y (n, m, 1), of sizes within the limits.
 pub fn fits_y(shape: Shape, v: &[f64]) -> bool
     ensures { λ r. ⌜ r ≡ fitsY shape (now (v .entry)) ⌝ }
 {
@@ -63,7 +63,8 @@ pub fn fits_y(shape: Shape, v: &[f64]) -> bool
     v.len() == n + m + 1
 }
 
-// Whether A is stored as the shape says, and c and b have a number for each column and each row.
+// Whether the sizes are within the limits, A is stored as the shape says, and c and b have a number for each column
+// and each row.
 pub fn operators_fit(shape: Shape, c: &[f64], a: &[f64], b: &[f64]) -> bool
     ensures { λ r. ⌜ r ≡ operatorsFit shape (now (c .entry)) (now (a .entry)) (now (b .entry)) ⌝ }
 {

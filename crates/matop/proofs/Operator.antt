@@ -10,7 +10,7 @@ use Rattle.rules.specs.Outcome.{Outcome}
 use Rattle.rules.specs.Vectors.{scaled}
 use Rattle.rules.specs.Matrices.{entry, entries, isEmpty, transformFits, transformed}
 use Rattle.rules.proofs.Matrices.{packed-transposed, packed-fits, transformed-same}
-use Rattle.matop.specs.Columns.{operated}
+use Rattle.matop.specs.Operated.{operated}
 
 module _ (transpose : Bool) (alpha : Float) (mat x : List Float) (beta : Float) (y : List Float) where
   pub scales-if-empty : (t : MatType) → isEmpty t ≡ true → scaled beta y ≡ operated transpose t alpha mat x beta y

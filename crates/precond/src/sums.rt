@@ -56,8 +56,8 @@ fn sums_x(shape: Shape, c: &[f64], a: &[f64], b: &[f64], tau_x: &mut [f64])
 {
     let n = shape.cols.0;
     let t = matrix_of(shape);
-    matop::absadd_cols(t, a, tau_x);
-    matop::absadd_rows(column(n), c, tau_x);
+    absadd::absadd_cols(t, a, tau_x);
+    absadd::absadd_rows(column(n), c, tau_x);
 }
 
 fn sums_y(shape: Shape, c: &[f64], a: &[f64], b: &[f64], tau_y: &mut [f64])
@@ -67,8 +67,8 @@ fn sums_y(shape: Shape, c: &[f64], a: &[f64], b: &[f64], tau_y: &mut [f64])
 {
     let m = shape.rows.0;
     let t = matrix_of(shape);
-    matop::absadd_rows(t, a, tau_y);
-    matop::absadd_rows(column(m), b, tau_y);
+    absadd::absadd_rows(t, a, tau_y);
+    absadd::absadd_rows(column(m), b, tau_y);
 }
 
 fn sums_tau(shape: Shape, c: &[f64], a: &[f64], b: &[f64], tau_tau: &mut [f64])
@@ -78,8 +78,8 @@ fn sums_tau(shape: Shape, c: &[f64], a: &[f64], b: &[f64], tau_tau: &mut [f64])
 {
     let m = shape.rows.0;
     let n = shape.cols.0;
-    matop::absadd_cols(column(n), c, tau_tau);
-    matop::absadd_cols(column(m), b, tau_tau);
+    absadd::absadd_cols(column(n), c, tau_tau);
+    absadd::absadd_cols(column(m), b, tau_tau);
 }
 
 // The rows' sums: those of the columns, with the primal part's added to y's.

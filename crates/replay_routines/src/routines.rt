@@ -25,7 +25,7 @@ fn run(routine: Routine, first: &[f64], second: &[f64], y: &mut [f64]) -> bool {
         Routine::Copy => linalg::copy(first, y),
         Routine::Add(alpha) => linalg::add(alpha, first, y),
         Routine::TransformDi(alpha, beta) => linalg::transform_di(alpha, first, second, beta, y),
-        Routine::TransformGe(transpose, rows, cols, alpha, beta) => matrix::transform_ge(
+        Routine::TransformGe(transpose, rows, cols, alpha, beta) => transform::transform_ge(
             transpose,
             rows,
             cols,
@@ -35,7 +35,7 @@ fn run(routine: Routine, first: &[f64], second: &[f64], y: &mut [f64]) -> bool {
             beta,
             y,
         ),
-        Routine::TransformSp(rows, alpha, beta) => matrix::transform_sp(
+        Routine::TransformSp(rows, alpha, beta) => transform::transform_sp(
             rows,
             alpha,
             first,
@@ -45,8 +45,8 @@ fn run(routine: Routine, first: &[f64], second: &[f64], y: &mut [f64]) -> bool {
         ),
         Routine::Op(t, alpha, beta) => matop::op(t, alpha, first, second, beta, y),
         Routine::TransOp(t, alpha, beta) => matop::trans_op(t, alpha, first, second, beta, y),
-        Routine::AbsaddCols(t) => matop::absadd_cols(t, first, y),
-        Routine::AbsaddRows(t) => matop::absadd_rows(t, first, y),
+        Routine::AbsaddCols(t) => absadd::absadd_cols(t, first, y),
+        Routine::AbsaddRows(t) => absadd::absadd_rows(t, first, y),
     }
 }
 

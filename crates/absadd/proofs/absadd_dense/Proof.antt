@@ -1,4 +1,4 @@
--- `matop::absadd_dense` meets its contract.
+-- `absadd::absadd_dense` meets its contract.
 use Prim.Native.Nat.{_-_}
 use mathlib.Core.Path.{_≡_, refl, sym, _∙_}
 use lib.ListN.{length}
@@ -10,9 +10,9 @@ use Rattle.rules.specs.Matrices.{Stored, entries, width, height, colSum}
 use Rattle.rules.proofs.Arithmetic.{Reached, reached-none, reached-more, reached-all}
 use Rattle.rules.proofs.Matrices.{stored-if-fits, fits-if-stored}
 use Rattle.rules.proofs.Outcome.{refused, done}
-use Rattle.matop.specs.Columns.{absadded}
-use Rattle.matop.proofs.absadd_dense.Statement.{statement}
-use Rattle.matop.proofs.absadd_dense.Tie as tie
+use Rattle.absadd.specs.Columns.{absadded}
+use Rattle.absadd.proofs.absadd_dense.Statement.{statement}
+use Rattle.absadd.proofs.absadd_dense.Tie as tie
 
 abbrev Inv-loop : tie.InvT-loop
 Inv-loop transpose rows cols mat y₀ k₀ k-end y k = Reached (λ i v. colSum (entries transpose (General rows cols) mat) (height transpose (General rows cols)) i +ᶠ v) k y₀ y × Stored (General rows cols) mat × (length y₀ ≡ width transpose (General rows cols)) × (k-end ≡ length y₀)

@@ -1,12 +1,12 @@
--- `matop::line_sum` meets its contract: the line asked for is stored.
+-- `absadd::line_sum` meets its contract: the line asked for is stored.
 use Prim.Native.Nat.{_+_, _*_, _<_, _≤_}
 use native.Mathlib.Omega.{arith}
 use mathlib.Core.Path.{_∙_}
 use lib.ListN.{length}
 use borrow.Author.Needs.{needs}
 use Rattle.rules.proofs.Matrices.{column-inside, row-inside, column-sum, row-sum, row-sum-none}
-use Rattle.matop.proofs.line_sum.Statement.{statement}
-use Rattle.matop.proofs.line_sum.Tie as tie
+use Rattle.absadd.proofs.line_sum.Statement.{statement}
+use Rattle.absadd.proofs.line_sum.Tie as tie
 
 inside-row : (c : tie.Else2) → c .before .before .before .args .k < length (c .before .before .before .args .mat .now)
 inside-row c =

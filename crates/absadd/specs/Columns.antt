@@ -7,13 +7,7 @@ use lib.Ieee.{Float, add}
 use Rattle.rules.specs.declared.MatType.{MatType}
 use Rattle.rules.specs.Helpers.{magnitude}
 use Rattle.rules.specs.Arithmetic.{_+ᶠ_, at, sumTo, sumFrom, each}
-use Rattle.rules.specs.Vectors.{scaled}
-use Rattle.rules.specs.Matrices.{triangle, entries, height, isEmpty, transformed, colSum}
-
--- a matrix, or the matrix transposed, as an operator
-unfoldable pub operated : Bool → MatType → Float → List Float → List Float → Float → List Float → List Float
-unfolding scaled transformed
-operated transpose t alpha mat x beta y = cond (isEmpty t) (scaled beta y) (transformed alpha (entries transpose t mat) x beta y)
+use Rattle.rules.specs.Matrices.{triangle, entries, height, colSum}
 
 -- the sums of the columns, or of the columns of the matrix transposed, added to y
 unfoldable pub absadded : Bool → MatType → List Float → List Float → List Float

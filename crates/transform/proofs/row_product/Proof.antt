@@ -1,4 +1,4 @@
--- `matrix::row_product` meets its contract.
+-- `transform::row_product` meets its contract.
 use Prim.Native.Nat.{_-_, _≤_}
 use mathlib.Core.Path.{_≡_, refl}
 use lib.ListN.{length}
@@ -6,8 +6,8 @@ use borrow.Author.Needs.{needs}
 use Rattle.rules.specs.Arithmetic.{_*ᶠ_, +0, at}
 use Rattle.rules.specs.Matrices.{entries}
 use Rattle.rules.proofs.Arithmetic.{Summed, summed-none, summed-more, summed-all}
-use Rattle.matrix.proofs.row_product.Statement.{statement}
-use Rattle.matrix.proofs.row_product.Tie as tie
+use Rattle.transform.proofs.row_product.Statement.{statement}
+use Rattle.transform.proofs.row_product.Tie as tie
 
 abbrev Inv-loop : tie.InvT-loop
 Inv-loop transpose t mat x r mat-x₀ c₀ c-end mat-x c = Summed +0 (λ k. entries transpose t mat r k *ᶠ at x k) c mat-x × (c ≤ length x) × (c-end ≡ length x)

@@ -1,11 +1,11 @@
--- `matrix::entry_at` meets its contract: each entry asked for is stored.
+-- `transform::entry_at` meets its contract: each entry asked for is stored.
 use Prim.Native.Nat.{_<_}
 use native.Mathlib.Omega.{arith}
 use lib.ListN.{length}
 use Rattle.rules.specs.Matrices.{entry}
 use Rattle.rules.proofs.Matrices.{stored-inside}
-use Rattle.matrix.proofs.entry_at.Statement.{statement}
-use Rattle.matrix.proofs.entry_at.Tie as tie
+use Rattle.transform.proofs.entry_at.Statement.{statement}
+use Rattle.transform.proofs.entry_at.Tie as tie
 
 inside : (c : tie.After-place) → c .place .result < length (c .before .before .before .args .mat .now)
 inside c =

@@ -16,7 +16,7 @@ use Rattle.rules.specs.Arithmetic.{_+ᶠ_, +0, at, sumTo, each, eachTo}
 use Rattle.rules.specs.Matrices.{triangle, entry, colSum, packedSum, absaddedCols}
 use Rattle.rules.proofs.Arithmetic.{sum-none, sum-more, sum-same, eachTo-length, eachTo-later, eachTo-at, each-length, each-at, each-is, each-same}
 use Rattle.rules.proofs.Columns.{inPacked-at}
-use Rattle.matop.specs.Columns.{columnAdded}
+use Rattle.absadd.specs.Columns.{columnAdded}
 
 -- ---- one column
 

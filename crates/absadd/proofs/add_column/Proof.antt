@@ -1,4 +1,4 @@
--- `matop::add_column` meets its contract.
+-- `absadd::add_column` meets its contract.
 use Prim.Native.Nat.{_+_, _-_, _≤_, _<_, suc}
 use native.Mathlib.Omega.{arith}
 use mathlib.Core.Path.{_≡_, _∙_}
@@ -10,9 +10,9 @@ use Rattle.rules.specs.Matrices.{triangle}
 use Rattle.rules.proofs.Arithmetic.{Reached, reached-none, reached-more}
 use Rattle.rules.proofs.Vectors.{abssum-of-part}
 use Rattle.matrix.proofs.Counted.{counted-small}
-use Rattle.matop.proofs.Packed.{column-added}
-use Rattle.matop.proofs.add_column.Statement.{statement}
-use Rattle.matop.proofs.add_column.Tie as tie
+use Rattle.absadd.proofs.Packed.{column-added}
+use Rattle.absadd.proofs.add_column.Statement.{statement}
+use Rattle.absadd.proofs.add_column.Tie as tie
 
 abbrev Inv-loop : tie.InvT-loop
 Inv-loop mat c y₀ start end i₀ y i = Reached (λ k v. v +ᶠ magnitude (at mat (start + k))) i y₀ y × (i ≤ c) × (c < length y₀) × (start + (c + 1) ≤ length mat) × (start ≡ triangle c)

@@ -1,4 +1,4 @@
--- `matop::absadd_packed` meets its contract: every column is stored.
+-- `absadd::absadd_packed` meets its contract: every column is stored.
 use Prim.Native.Nat.{_-_, _≤_}
 use native.Mathlib.Omega.{arith}
 use mathlib.Core.Path.{_≡_, sym, _∙_}
@@ -10,9 +10,9 @@ use Rattle.rules.specs.Matrices.{Stored}
 use Rattle.rules.proofs.Matrices.{stored-if-fits, fits-if-stored}
 use Rattle.rules.proofs.Triangle.{triangle-inside}
 use Rattle.rules.proofs.Outcome.{refused, done}
-use Rattle.matop.proofs.Packed.{Columns, columns-none, columns-more, columns-all}
-use Rattle.matop.proofs.absadd_packed.Statement.{statement}
-use Rattle.matop.proofs.absadd_packed.Tie as tie
+use Rattle.absadd.proofs.Packed.{Columns, columns-none, columns-more, columns-all}
+use Rattle.absadd.proofs.absadd_packed.Statement.{statement}
+use Rattle.absadd.proofs.absadd_packed.Tie as tie
 
 abbrev Inv-loop : tie.InvT-loop
 Inv-loop mat y₀ n c₀ y c = Columns (record { 0 = n }) mat c y₀ y × (c ≤ n) × Stored (SymPack (record { 0 = n })) mat × (length y₀ ≡ n)

@@ -1,4 +1,4 @@
--- `matrix::transform` meets its contract.
+-- `transform::transform` meets its contract.
 use Prim.Native.Nat.{_-_}
 use mathlib.Core.Path.{_≡_, refl, sym, _∙_}
 use lib.ListN.{length}
@@ -9,8 +9,8 @@ use Rattle.rules.specs.Matrices.{entries, product, transformed}
 use Rattle.rules.proofs.Arithmetic.{Reached, reached-none, reached-more, reached-all}
 use Rattle.rules.proofs.Matrices.{Fitting, fitting}
 use Rattle.rules.proofs.Outcome.{refused, done}
-use Rattle.matrix.proofs.transform.Statement.{statement}
-use Rattle.matrix.proofs.transform.Tie as tie
+use Rattle.transform.proofs.transform.Statement.{statement}
+use Rattle.transform.proofs.transform.Tie as tie
 
 abbrev Inv-loop : tie.InvT-loop
 Inv-loop transpose t alpha mat x beta y₀ r₀ r-end y r = Reached (λ k v. alpha *ᶠ product (entries transpose t mat) x k +ᶠ beta *ᶠ v) r y₀ y × Fitting transpose t mat x y₀ × (r-end ≡ length y₀)

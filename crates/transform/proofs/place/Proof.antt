@@ -1,12 +1,12 @@
--- `matrix::place` meets its contract: within the limits nothing overflows.
+-- `transform::place` meets its contract: within the limits nothing overflows.
 use native.Mathlib.Omega.{arith}
 use borrow.Author.Needs.{needs}
 use borrow.Author.Tests.{lt-ltb, le-ltb}
 use Rattle.rules.specs.Matrices.{place}
 use Rattle.rules.proofs.Matrices.{product-small}
 use Rattle.matrix.proofs.Counted.{counted-small}
-use Rattle.matrix.proofs.place.Statement.{statement}
-use Rattle.matrix.proofs.place.Tie as tie
+use Rattle.transform.proofs.place.Statement.{statement}
+use Rattle.transform.proofs.place.Tie as tie
 
 enum-known-t : tie.Need-enum-known-t
 enum-known-t c = search needs

@@ -1,6 +1,8 @@
 -- `solver::entry::accepted` meets its contract: the vectors start as +0, and of cone work the required part is lent.
+use Prim.Native.Nat.{_+_, _*_}
 use mathlib.Core.Path.{refl}
 use borrow.Author.Needs.{needs}
+use Rattle.rules.specs.Limits.{limit}
 use Rattle.rules.specs.Problem.{problemIn}
 use Rattle.solver.proofs.Outcomes.{lent, at-zero, left-as}
 use Rattle.solver.proofs.entry.accepted.Statement.{statement}
@@ -92,7 +94,7 @@ run-in-requires c κs =
     let k = c .before .before .before .before .before .before .before .before .before .before .before .before .before .before .before .args in
     let p = problemIn (k .shape) (k .c .now) (k .a .now) (k .b .now) (k .words .now) (k .par) in
     let t = c .before .before .before .before .before .before .before .before .before .before .before .before .before .before .before .pre in
-    (lent p (k .work .now) (k .cone-work .now) t _ (c .before .before .before .before .before .before .before .before .cone-work-len .ensures), at-zero (k .shape) (t .ready .operators .m-within) (t .ready .operators .n-within) 769 513 refl refl)
+    (lent p (k .work .now) (k .cone-work .now) t _ (c .before .before .before .before .before .before .before .before .cone-work-len .ensures), at-zero (k .shape) (t .ready .operators .m-within) (t .ready .operators .n-within) (3 * limit + 1) (2 * limit + 1) refl refl)
 
 same-length : tie.Need-same-length
 same-length c = search needs

@@ -1,30 +1,21 @@
 // map_eig of floatgeneric.rs: the semidefinite projection.
+use float::root_two;
 use jacobi::jacobi_eig;
-use jacobi::sweeps_fit;
 use matrix::triangle;
 use rules::Cone;
 use rules::Projection;
 use rules::SolverParam;
-use words::block_work;
-use words::is_within;
-use words::places_of;
+use words::block_fits;
 ghost use Prim.Native.Nat.{_+_, _*_, _≤_, _<_};
 ghost use mathlib.Core.Path.{_≡_};
 ghost use mathlib.Core.Bool.{true};
 ghost use lib.ListN.{length, drop};
 ghost use Rattle.rules.specs.Arithmetic.{+0, at, each, tabulate};
 ghost use Rattle.rules.specs.Jacobi.{packed, inPacked, inSquare, jacobi, sweepsFit};
-ghost use Rattle.rules.specs.Projections.{√2, diagonalTimes, unit, rebuiltEntry, projPSD, sizesFit, blockFits, BlockOutcome};
+ghost use Rattle.rules.specs.Projections.{√2, diagonalTimes, unit, rebuiltEntry, projPSD, blockFits, BlockOutcome};
 ghost use Rattle.rules.specs.declared.Cone.the-variants.{PSD};
 ghost use Rattle.jacobi.specs.Sizes.{IsPacked, IsSquare};
 ghost use Rattle.eig.specs.Parts.{plusColumn, plusRank1, SweptBlock, RebuiltBlock};
-
-// The root of 2.
-pub fn root_two() -> f64
-    ensures { λ r. ⌜ r ≡ √2 ⌝ }
-{
-    1.4142135623730951
-}
 
 // The diagonal times a number.
 fn scale_diagonal(n: usize, by: f64, x: &mut [f64])
@@ -129,22 +120,6 @@ fn rebuild_block(n: usize, mat: &mut [f64], work: &mut [f64])
     eigenvalues(n, mat, &mut work[0..n]);
     rebuild(n, work, mat);
     scale_diagonal(n, float::reciprocal(root_two()), mat);
-}
-
-// Whether a block, of any kind, has that many places and finds enough cone work, and the sweep limit fits.
-pub fn block_fits(par: SolverParam, cone: Cone, size: usize, work: usize) -> bool
-    ensures { λ r. ⌜ r ≡ sizesFit par cone size work ⌝ }
-{
-    if !is_within(cone) {
-        return false;
-    }
-    if size != places_of(cone) {
-        return false;
-    }
-    if work < block_work(cone) {
-        return false;
-    }
-    sweeps_fit(par)
 }
 
 // The projection of a semidefinite block.

@@ -1,15 +1,15 @@
 // Jacobi's method, jacobi_eig of floatgeneric.rs. The matrix is a packed upper triangle, the vectors are n columns of n.
 use matrix::triangle;
 use rules::LIMIT;
-use rules::MOST_SWEEPS;
 use rules::Projection;
 use rules::SolverParam;
+use words::sweeps_fit;
 ghost use Prim.Native.Nat.{_+_, _-_, _*_, _≤_, _<_};
 ghost use mathlib.Core.Path.{_≡_};
 ghost use lib.ListN.{length};
 ghost use Rattle.rules.specs.Limits.{limit};
 ghost use Rattle.rules.specs.Matrices.{packedPlace};
-ghost use Rattle.rules.specs.Jacobi.{packed, square, inPacked, inSquare, rotatedEntry, rotatedVector, rotated, pairDone, rowDone, isRotated, jacobi, sweepsFit, jacobiFits, JacobiOutcome};
+ghost use Rattle.rules.specs.Jacobi.{packed, square, inPacked, inSquare, rotatedEntry, rotatedVector, rotated, pairDone, rowDone, isRotated, jacobi, jacobiFits, JacobiOutcome};
 ghost use Rattle.rules.specs.Jacobi as rules;
 ghost use Rattle.jacobi.specs.Sizes.{IsPacked, IsSquare, IsPair, mostRotations};
 ghost use Rattle.jacobi.specs.Loops.{state, RowsRotated, CornersOf};
@@ -186,16 +186,6 @@ fn sweep(n: usize, tol: f64, rotations: u64, x: &mut [f64], z: &mut [f64]) -> u6
         made = sweep_row(n, tol, i, made, x, z);
     }
     made
-}
-
-// Whether the sweep limit is within its range.
-pub fn sweeps_fit(par: SolverParam) -> bool
-    ensures { λ r. ⌜ r ≡ sweepsFit par ⌝ }
-{
-    if par.sweep_limit < 1 {
-        return false;
-    }
-    par.sweep_limit <= MOST_SWEEPS
 }
 
 // Whether matrix and vectors have the lengths that the order says, and the order and the sweep limit are within their ranges.

@@ -105,6 +105,6 @@ fn group_parts(shape: Shape, words: &[u16], d: &mut [f64])
     let n = shape.cols.0;
     let nm = n + m;
     let nmm = nm + m;
-    product::product_group(words, &mut d[n..nm]);
-    product::product_group(words, &mut d[nm..nmm]);
+    grouping::product_group(words, &mut d[n..nm]);
+    grouping::product_group(words, &mut d[nm..nmm]);
 }

@@ -243,9 +243,9 @@ fn groups_and_not(list: &[u16], xs: &mut [f64], places: usize) -> bool {
     if xs.len() <= places {
         return false;
     }
-    if !product::product_group(list, &mut xs[0..places]) {
+    if !grouping::product_group(list, &mut xs[0..places]) {
         return false;
     }
     let longer = places + 1;
-    !product::product_group(list, &mut xs[0..longer])
+    !grouping::product_group(list, &mut xs[0..longer])
 }

@@ -2,12 +2,16 @@
 use matrix::triangle;
 use rules::Cone;
 use rules::LIMIT;
+use rules::MOST_SWEEPS;
+use rules::SolverParam;
 use rules::Word;
 ghost use Prim.Native.Nat.{_≤_};
 ghost use mathlib.Core.Path.{_≡_};
 ghost use lib.Dec.{leb};
 ghost use Rattle.rules.specs.Limits.{limit};
 ghost use Rattle.rules.specs.Blocks.{orderOf, readWord, places, blocksOf, isBadCone};
+ghost use Rattle.rules.specs.Jacobi.{sweepsFit};
+ghost use Rattle.rules.specs.Projections.{sizesFit};
 ghost use Rattle.rules.specs.Product.{coneWork};
 ghost use Rattle.words.specs.Sayable.{isSayable, sayablePlaces, sayableWork};
 
@@ -108,6 +112,32 @@ pub fn block_work(cone: Cone) -> usize
         Cone::RotSOC(_) => 0,
         Cone::PSD(order) => order + order * order,
     }
+}
+
+// Whether the sweep limit is within its range.
+pub fn sweeps_fit(par: SolverParam) -> bool
+    ensures { λ r. ⌜ r ≡ sweepsFit par ⌝ }
+{
+    if par.sweep_limit < 1 {
+        return false;
+    }
+    par.sweep_limit <= MOST_SWEEPS
+}
+
+// Whether a block, of any kind, has that many places and finds enough cone work, and the sweep limit fits.
+pub fn block_fits(par: SolverParam, cone: Cone, size: usize, work: usize) -> bool
+    ensures { λ r. ⌜ r ≡ sizesFit par cone size work ⌝ }
+{
+    if !is_within(cone) {
+        return false;
+    }
+    if size != places_of(cone) {
+        return false;
+    }
+    if work < block_work(cone) {
+        return false;
+    }
+    sweeps_fit(par)
 }
 
 // Whether a list has a word that is bad, or blocks that don't add up to that many places.

@@ -1,4 +1,4 @@
--- `product::group_all` meets its contract.
+-- `grouping::group_all` meets its contract.
 use borrow.Author.Needs.{needs}
 use native.Mathlib.Omega.{arith}
 use Prim.Native.Nat.{ℕ, _+_, _-_, _≤_, _<_}
@@ -9,8 +9,8 @@ use Rattle.rules.specs.Blocks.{readWord, places}
 use Rattle.rules.proofs.Blocks.{word-most}
 use Rattle.rules.proofs.ConeProduct.{Grouping, grouping-start, grouping-more, grouping-end, walk-no-bad, walk-places}
 use Rattle.words.proofs.Sayable.{sayable-places}
-use Rattle.product.proofs.group_all.Statement.{statement}
-use Rattle.product.proofs.group_all.Tie as tie
+use Rattle.grouping.proofs.group_all.Statement.{statement}
+use Rattle.grouping.proofs.group_all.Tie as tie
 
 abbrev Inv-loop : tie.InvT-loop
 Inv-loop words xs₀ start₀ i₀ i-end xs start i = Grouping words xs₀ i start xs × (i ≤ length words) × (i-end ≡ length words)

@@ -1,4 +1,4 @@
--- `product::group` meets its contract.
+-- `grouping::group` meets its contract.
 use borrow.Author.Needs.{needs}
 use native.Mathlib.Omega.{arith}
 use Prim.Native.Nat.{_-_, _≤_}
@@ -8,8 +8,8 @@ use Rattle.rules.proofs.ConeProduct.{smallest-none, smallest-more, grouped-none
 use Rattle.rules.proofs.Arithmetic.{Reached, reached-none, reached-more, reached-all}
 use Rattle.rules.specs.Product.{smallestTo, grouped}
 use Rattle.rules.specs.Arithmetic.{at}
-use Rattle.product.proofs.group.Statement.{statement}
-use Rattle.product.proofs.group.Tie as tie
+use Rattle.grouping.proofs.group.Statement.{statement}
+use Rattle.grouping.proofs.group.Tie as tie
 
 abbrev Inv-loop : tie.InvT-loop
 Inv-loop t smallest₀ k₀ k-end smallest k = (smallest ≡ smallestTo k (at t 0) t) × (k ≤ length t) × (k-end ≡ length t)

@@ -1,7 +1,7 @@
--- `product::is_grouped` meets its contract.
+-- `grouping::is_grouped` meets its contract.
 use borrow.Author.Needs.{needs}
-use Rattle.product.proofs.is_grouped.Statement.{statement}
-use Rattle.product.proofs.is_grouped.Tie as tie
+use Rattle.grouping.proofs.is_grouped.Statement.{statement}
+use Rattle.grouping.proofs.is_grouped.Tie as tie
 
 enum-told : tie.Need-enum-told
 enum-told c = search needs

@@ -1,10 +1,10 @@
--- `product::product_group` meets its contract.
+-- `grouping::product_group` meets its contract.
 use borrow.Author.Needs.{needs}
 use mathlib.Core.Path.{sym, _∙_}
 use Rattle.rules.proofs.Outcome.{refused, done}
 use borrow.Author.Tests.{not-true, not-false}
-use Rattle.product.proofs.product_group.Statement.{statement}
-use Rattle.product.proofs.product_group.Tie as tie
+use Rattle.grouping.proofs.product_group.Statement.{statement}
+use Rattle.grouping.proofs.product_group.Tie as tie
 
 list-fits-requires : tie.Need-list-fits-requires
 list-fits-requires c κs = search needs

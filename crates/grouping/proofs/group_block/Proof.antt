@@ -1,10 +1,10 @@
--- `product::group_block` meets its contract.
+-- `grouping::group_block` meets its contract.
 use borrow.Author.Needs.{needs}
 use mathlib.Core.Path.{_≡_, sym, _∙_}
 use Rattle.rules.specs.Product.{isGrouped}
 use mathlib.Core.Bool.{true}
-use Rattle.product.proofs.group_block.Statement.{statement}
-use Rattle.product.proofs.group_block.Tie as tie
+use Rattle.grouping.proofs.group_block.Statement.{statement}
+use Rattle.grouping.proofs.group_block.Tie as tie
 
 is-grouped-requires : tie.Need-is-grouped-requires
 is-grouped-requires c κs = search needs

@@ -4,11 +4,11 @@ use native.Mathlib.Omega.{arith}
 use mathlib.Core.Path.{_≡_, refl, ap, _∙_}
 use mathlib.Core.Bool.{Bool, true, false, _&&_}
 use mathlib.Core.List.{List}
-use lib.Dec.{eqb, leb}
+use lib.Dec.{eqb}
 use lib.Ieee.{Float, nan}
 use lib.ListN.{length, take, drop, length-drop}
 use lib.Seq.{getD-take, getD-drop, length-take-le}
-use borrow.Author.Tests.{leb-true, lt-leb, le-leb, ne-eqb}
+use borrow.Author.Tests.{lt-leb, le-leb, ne-eqb}
 use Rattle.rules.specs.Arithmetic.{at}
 use Rattle.rules.specs.declared.Ending.{Ending}
 use Rattle.rules.specs.declared.Ending.the-variants.{BadParam, TooLarge, InvalidOp, BadCone, NotFinite, WorkShortage, Converged, ExcessIter, ExcessIterUnscaled, Unbounded, Infeasible, ConeFailure}
@@ -70,15 +70,6 @@ module _ (bytes : List ℕ) (i pattern : ℕ) (work cone : List Float) where
   pub left-then : standBefore bytes (i + 8) work used pattern ≡ true → standBefore bytes (i + 8 + used) cone coneUsed pattern ≡ true → endsAfter bytes i used coneUsed ≡ isLeft bytes i pattern work cone
   unfolding isLeft
   left-then e f = rw (e, f)
-
--- as many numbers as are compared are there
-pub before-fits : (bytes : List ℕ) (from : ℕ) (xs : List Float) (n pattern : ℕ) → standBefore bytes from xs n pattern ≡ true → n ≤ length xs
-unfolding standBefore
-before-fits bytes from xs n pattern e = go (leb n (length xs)) refl
-  where
-    go : (t : Bool) → leb n (length xs) ≡ t → n ≤ length xs
-    go true l = leb-true n (length xs) l
-    go false l = let z : false ≡ true = rw l at e in let y : _≡_ {A = ℕ} 0 1 = cc in absurd (omega arith)
 
 -- x and y as parts of work
 pub first-part : (n : ℕ) (work : List Float) → solutionX n work ≡ solutionY n 0 work

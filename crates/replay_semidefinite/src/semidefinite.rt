@@ -1,7 +1,7 @@
 // Semidefinite blocks: those of the list, and the cases worked by hand.
-use crate::room;
 use libc::STDOUT_FILENO;
 use replay::record;
+use replay::room;
 use rules::Cone;
 use rules::Projection;
 use rules::SolverParam;

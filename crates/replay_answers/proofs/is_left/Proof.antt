@@ -5,8 +5,9 @@ use mathlib.Core.Path.{_≡_, sym, _∙_}
 use mathlib.Core.Bool.{true, false}
 use lib.ListN.{length}
 use borrow.Author.Tests.{not-true, not-false}
+use Rattle.replay.proofs.Records.{before-fits}
 use Rattle.replay.specs.Records.{wordOf, standBefore}
-use Rattle.replay_answers.proofs.Held.{left-past, left-not, left-not-cone, left-then, before-fits}
+use Rattle.replay_answers.proofs.Held.{left-past, left-not, left-not-cone, left-then}
 use Rattle.replay_answers.proofs.is_left.Statement.{statement}
 use Rattle.replay_answers.proofs.is_left.Tie as tie
 

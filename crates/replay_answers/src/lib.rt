@@ -5,15 +5,19 @@ use replay::record;
 use rules::Cols;
 use rules::Ending;
 use rules::Rows;
+ghost use Prim.Native.Nat.{_+_, _^_, _<_, _≤_};
+ghost use mathlib.Core.Bool.{true};
 ghost use mathlib.Core.Path.{_≡_};
+ghost use mathlib.Core.List.{[]};
+ghost use lib.ListN.{length, take, drop};
+ghost use Rattle.replay.specs.Records.{standFrom};
+ghost use Rattle.rules.specs.Outcome.{onPaper};
+ghost use Rattle.rules.specs.Run.{solutionY};
 ghost use Rattle.replay_answers.specs.Numbers.{numberInLists};
+ghost use Rattle.replay_answers.specs.Held.{threeOf, carried, isTold, endsAfter, isLeft};
 
 // The number of an answer whose places of work are left out, since all are +0.
 const CONE_FAILURE: u64 = 12;
-
-fn after(at: usize, places: usize) -> usize {
-    std::num::wrapping_add_usize(at, places)
-}
 
 // The number of an answer in the lists: document 01's of a refusal, then those of a run.
 pub fn number_of(ending: Ending) -> u64
@@ -36,73 +40,88 @@ pub fn number_of(ending: Ending) -> u64
 }
 
 // Whether this is the record's ending, k and q.
-pub fn is_told(record: &[u8], at: usize, ending: Ending, steps: u64, rotations: u64) -> bool {
+pub fn is_told(record: &[u8], at: usize, ending: Ending, steps: u64, rotations: u64) -> bool
+    ensures { λ r. ⌜ r ≡ isTold (now («record» .entry)) at ending steps rotations ⌝ }
+{
+    // Past the end stands 0, which is no answer's number.
+    if at >= record::words(record) {
+        return false;
+    }
     if number_of(ending) != record::word(record, at) {
         return false;
     }
-    if record::word(record, after(at, 1)) != steps {
+    if record::word(record, at + 1) != steps {
         return false;
     }
-    if record::word(record, after(at, 2)) != rotations {
+    if record::word(record, at + 2) != rotations {
         return false;
     }
-    is_carried(record, after(at, 3), ending)
+    is_carried(record, at + 3, ending)
 }
 
 // Whether the ending carries what the three words from a place on say; where there are fewer, 0.
-fn is_carried(record: &[u8], at: usize, ending: Ending) -> bool {
+fn is_carried(record: &[u8], at: usize, ending: Ending) -> bool
+    ensures { λ r. ⌜ r ≡ carried (now («record» .entry)) at (onPaper ending) ⌝ }
+{
     match ending {
-        Ending::Converged(primal, dual, gap) => are_three(record, at, primal, dual, gap),
-        Ending::ExcessIter(primal, dual, gap) => are_three(record, at, primal, dual, gap),
+        Ending::Converged(primal, dual, gap) => record::holds(record, at, &[primal, dual, gap]),
+        Ending::ExcessIter(primal, dual, gap) => record::holds(record, at, &[primal, dual, gap]),
         Ending::ExcessIterUnscaled(unbounded, infeasible) => {
-            are_three(record, at, unbounded, infeasible, 0.0)
+            record::holds(record, at, &[unbounded, infeasible, 0.0])
         }
-        Ending::Unbounded(criterion) => are_three(record, at, criterion, 0.0, 0.0),
-        Ending::Infeasible(criterion) => are_three(record, at, criterion, 0.0, 0.0),
+        Ending::Unbounded(criterion) => record::holds(record, at, &[criterion, 0.0, 0.0]),
+        Ending::Infeasible(criterion) => record::holds(record, at, &[criterion, 0.0, 0.0]),
         Ending::ConeFailure(block) => record::size(record, at) == block,
-        _ => are_three(record, at, 0.0, 0.0, 0.0),
+        Ending::BadParam => carries_none(record, at),
+        Ending::TooLarge => carries_none(record, at),
+        Ending::InvalidOp => carries_none(record, at),
+        Ending::BadCone => carries_none(record, at),
+        Ending::NotFinite => carries_none(record, at),
+        Ending::WorkShortage => carries_none(record, at),
     }
 }
 
-fn are_three(record: &[u8], at: usize, x: f64, y: f64, z: f64) -> bool {
-    if !record::holds_one(record, at, x) {
-        return false;
-    }
-    if !record::holds_one(record, after(at, 1), y) {
-        return false;
-    }
-    record::holds_one(record, after(at, 2), z)
+fn carries_none(record: &[u8], at: usize) -> bool
+    ensures { λ r. ⌜ r ≡ standFrom (now («record» .entry)) at (threeOf []) ⌝ }
+{
+    record::holds(record, at, &[0.0, 0.0, 0.0])
 }
 
 // Whether both buffers are left as the record says: their required places, and all others as before.
 // Past the record's end stands +0, as in the places that it leaves out.
-pub fn is_left(record: &[u8], at: usize, before: u64, work: &[f64], cone_work: &[f64]) -> bool {
-    let number = record::word(record, at);
-    let work_used = record::size(record, after(at, 6));
-    let cone_used = record::size(record, after(at, 7));
-    let work_at = after(at, 8);
-    let cone_at = after(work_at, work_used);
-    let end = after(cone_at, cone_used);
-    if !is_end(record, number, work_at, end) {
+pub fn is_left(record: &[u8], at: usize, before: u64, work: &[f64], cone_work: &[f64]) -> bool
+    ensures { λ r. ⌜ r ≡ isLeft (now («record» .entry)) at before (now (work .entry)) (now («cone_work» .entry)) ⌝ }
+{
+    if at >= record::words(record) {
         return false;
     }
-    if !record::holds_before(record, work_at, work, work_used, before) {
+    let work_used = record::size(record, at + 6);
+    let cone_used = record::size(record, at + 7);
+    if !record::holds_before(record, at + 8, work, work_used, before) {
         return false;
     }
-    record::holds_before(record, cone_at, cone_work, cone_used, before)
+    if !record::holds_before(record, at + 8 + work_used, cone_work, cone_used, before) {
+        return false;
+    }
+    is_end(record, at, work_used, cone_used)
 }
 
 // Whether the record ends where it should: after the last place, or before the first if all are +0.
-fn is_end(record: &[u8], number: u64, first: usize, end: usize) -> bool {
-    if number == CONE_FAILURE {
-        return record::words(record) == first;
+fn is_end(record: &[u8], at: usize, work_used: usize, cone_used: usize) -> bool
+    requires { ⌜ at + 8 + «work_used» + «cone_used» < 2 ^ 64 ⌝ }
+    ensures { λ r. ⌜ r ≡ endsAfter (now («record» .entry)) at «work_used» «cone_used» ⌝ }
+{
+    if record::word(record, at) == CONE_FAILURE {
+        return record::words(record) == at + 8;
     }
-    record::words(record) == end
+    record::words(record) == at + 8 + work_used + cone_used
 }
 
 // Whether x and y are handed back as the first places of work and the next, or none where work is too
-// short.
-pub fn has_parts(work: &[f64], rows: Rows, cols: Cols) -> bool {
+// short. What solution_x and solution_y promise makes it so.
+pub fn has_parts(work: &[f64], rows: Rows, cols: Cols) -> bool
+    ensures { λ r. ⌜ r ≡ true ⌝ }
+{
     let n = cols.0;
     let m = rows.0;
     if !is_part(solution::solution_x(work, cols), work, 0, n) {
@@ -111,7 +130,10 @@ pub fn has_parts(work: &[f64], rows: Rows, cols: Cols) -> bool {
     is_part(solution::solution_y(work, rows, cols), work, n, m)
 }
 
-fn is_part(part: &[f64], whole: &[f64], start: usize, places: usize) -> bool {
+fn is_part(part: &[f64], whole: &[f64], start: usize, places: usize) -> bool
+    requires { ⌜ now part ≡ solutionY places start (now whole) ⌝ }
+    ensures { λ r. ⌜ r ≡ true ⌝ }
+{
     if start > whole.len() {
         return part.len() == 0;
     }
@@ -125,13 +147,13 @@ fn is_part(part: &[f64], whole: &[f64], start: usize, places: usize) -> bool {
 }
 
 // Whether these numbers stand in a longer vector from a place on, bit for bit.
-fn are_same(part: &[f64], whole: &[f64], start: usize) -> bool {
+fn are_same(part: &[f64], whole: &[f64], start: usize) -> bool
+    requires { ⌜ start + length (now part) ≤ length (now whole) ⌝ }
+    requires { ⌜ now part ≡ take (length (now part)) (drop start (now whole)) ⌝ }
+    ensures { λ r. ⌜ r ≡ true ⌝ }
+{
     for i in 0..part.len() {
-        let at = std::num::wrapping_add_usize(start, i);
-        if at >= whole.len() {
-            return false;
-        }
-        if patterns::pattern_of(part[i]) != patterns::pattern_of(whole[at]) {
+        if patterns::pattern_of(part[i]) != patterns::pattern_of(whole[start + i]) {
             return false;
         }
     }

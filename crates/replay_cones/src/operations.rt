@@ -2,7 +2,7 @@
 // Each routine is then asked again with one place too many, or too few, and has to turn that down
 // and leave everything as it is.
 use replay::record;
-use replay_semidefinite::room;
+use replay::room;
 use replay_semidefinite::semidefinite;
 use rules::Cone;
 use rules::MOST_WORDS;

@@ -1,6 +1,6 @@
 // The operations of the list, by their numbers: whether a record's answer is this repository's too.
 use replay::record;
-use replay_routines::room;
+use replay::room;
 use replay_routines::routines;
 use replay_routines::routines::Routine;
 use rules::Cols;

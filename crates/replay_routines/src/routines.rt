@@ -1,6 +1,6 @@
 // The routines that answer whether the lengths fit, each with the sizes and factors of its record.
-use crate::room;
 use replay::record;
+use replay::room;
 use rules::Cols;
 use rules::MatType;
 use rules::Rows;

@@ -1,11 +1,15 @@
 // Semidefinite blocks: those of the list, and the cases worked by hand.
-use crate::room;
 use libc::STDOUT_FILENO;
 use replay::record;
+use replay::room;
 use rules::Cone;
 use rules::Projection;
 use rules::SolverParam;
 ghost use Prim.Native.Nat.{_≤_};
+ghost use mathlib.Core.Path.{_≡_};
+ghost use Rattle.rules.specs.Arithmetic.{+0};
+ghost use Rattle.rules.specs.Parameters.{paramOf};
+ghost use Rattle.replay_semidefinite.specs.Answers.{doneBy, failedBy, turnedDown};
 
 // The routines that project such a block.
 enum Way {
@@ -29,11 +33,16 @@ fn project(
 }
 
 // The parameters that a projection reads; the others say nothing to it.
-pub fn parameters(eps_zero: f64, sweep_limit: u64) -> SolverParam {
+pub fn parameters(eps_zero: f64, sweep_limit: u64) -> SolverParam
+    ensures { λ r. ⌜ r ≡ paramOf 1 +0 +0 «eps_zero» «sweep_limit» ⌝ }
+{
     SolverParam::of(1, 0.0, 0.0, eps_zero, sweep_limit)
 }
 
-pub fn is_done(answer: Projection, rotations: u64) -> bool {
+// Whether it succeeded, with so many rotations.
+pub fn is_done(answer: Projection, rotations: u64) -> bool
+    ensures { λ r. ⌜ r ≡ doneBy answer rotations ⌝ }
+{
     match answer {
         Projection::Done(made) => made == rotations,
         Projection::Failed(_) => false,
@@ -41,7 +50,10 @@ pub fn is_done(answer: Projection, rotations: u64) -> bool {
     }
 }
 
-fn is_failed(answer: Projection, rotations: u64) -> bool {
+// Whether it failed, with so many rotations.
+fn is_failed(answer: Projection, rotations: u64) -> bool
+    ensures { λ r. ⌜ r ≡ failedBy answer rotations ⌝ }
+{
     match answer {
         Projection::Done(_) => false,
         Projection::Failed(made) => made == rotations,
@@ -49,7 +61,10 @@ fn is_failed(answer: Projection, rotations: u64) -> bool {
     }
 }
 
-pub fn is_no(answer: Projection) -> bool {
+// Whether it turned the block down.
+pub fn is_no(answer: Projection) -> bool
+    ensures { λ r. ⌜ r ≡ turnedDown answer ⌝ }
+{
     match answer {
         Projection::Done(_) => false,
         Projection::Failed(_) => false,

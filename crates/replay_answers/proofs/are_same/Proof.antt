@@ -1,8 +1,11 @@
--- `replay_answers::are_same` is safe and ends: the measure is the numbers that are left.
+-- `replay_answers::are_same` meets its contract.
 use borrow.Author.Needs.{needs}
 use Prim.Native.Nat.{_-_, _≤_}
 use mathlib.Core.Path.{_≡_}
 use lib.ListN.{length}
+use mathlib.Core.Path.{refl, ap, sym, _∙_}
+use lib.Ieee.{binary64, toBits}
+use Rattle.replay_answers.proofs.Held.{in-whole}
 use Rattle.replay_answers.proofs.are_same.Statement.{statement}
 use Rattle.replay_answers.proofs.are_same.Tie as tie
 
@@ -15,12 +18,6 @@ abbrev μ-loop : tie.MeasureT-loop
 loop-holds : tie.Need-loop-holds Inv-loop μ-loop
 loop-holds c = search needs
 
-wrapping-add-usize-requires : tie.Need-wrapping-add-usize-requires Inv-loop μ-loop
-wrapping-add-usize-requires c κs = search needs
-
-returns : tie.Need-returns Inv-loop μ-loop
-returns c = search needs
-
 mul-pattern-of : tie.Need-mul-pattern-of Inv-loop μ-loop
 mul-pattern-of c = search needs
 
@@ -29,6 +26,9 @@ shared-slice-read-pattern-of c = search needs
 
 pattern-of-requires : tie.Need-pattern-of-requires Inv-loop μ-loop
 pattern-of-requires c κs = search needs
+
+add-pattern-of : tie.Need-add-pattern-of Inv-loop μ-loop
+add-pattern-of c = search needs
 
 mul-pattern-of-2 : tie.Need-mul-pattern-of-2 Inv-loop μ-loop
 mul-pattern-of-2 c = search needs
@@ -39,8 +39,12 @@ shared-slice-read-pattern-of-2 c = search needs
 pattern-of-requires-2 : tie.Need-pattern-of-requires-2 Inv-loop μ-loop
 pattern-of-requires-2 c κs = search needs
 
-returns-2 : tie.Need-returns-2 Inv-loop μ-loop
-returns-2 c = search needs
+returns : tie.Need-returns Inv-loop μ-loop
+returns c =
+    let l = c .before .before .before .before .before .before in
+    let a = l .before .before .before .args in
+    let p = a .part .now in
+    absurd (c .if1 .taken (c .before .before .before .pattern-of .ensures ∙ ap (toBits binary64) (in-whole p (a .whole .now) (a .start) (l .loop .i) (l .before .before .before .pre .1) (search needs)) ∙ sym (c .before .pattern-of2 .ensures)))
 
 add-i : tie.Need-add-i Inv-loop μ-loop
 add-i c = search needs
@@ -51,8 +55,8 @@ loop-less c = search needs
 loop-again : tie.Need-loop-again Inv-loop μ-loop
 loop-again c = search needs
 
-returns-3 : tie.Need-returns-3 Inv-loop μ-loop
-returns-3 c = search needs
+returns-2 : tie.Need-returns-2 Inv-loop μ-loop
+returns-2 c = refl
 
 pub are-same-spec : {M : Type 1} → statement M
 are-same-spec =
@@ -61,16 +65,15 @@ are-same-spec =
     Inv-loop
     μ-loop
     loop-holds
-    wrapping-add-usize-requires
-    returns
     mul-pattern-of
     shared-slice-read-pattern-of
     pattern-of-requires
+    add-pattern-of
     mul-pattern-of-2
     shared-slice-read-pattern-of-2
     pattern-of-requires-2
-    returns-2
+    returns
     add-i
     loop-less
     loop-again
-    returns-3)
+    returns-2)

@@ -8,76 +8,49 @@ use lib.Ieee.{Float}
 use lib.ListN.{drop}
 use Rattle.rules.specs.declared.Ending.{Ending}
 use Rattle.rules.specs.declared.Ending.the-variants.{ConeFailure}
-use Rattle.rules.specs.declared.Product.{Product}
-use Rattle.rules.specs.declared.Product.the-variants.{Done, Failed, No}
-use Rattle.rules.specs.declared.SolverParam.{SolverParam}
-use Rattle.rules.specs.Product.{Failure, none, block, Passed, projAll, isNone}
-use Rattle.rules.specs.Problem.{Problem, embed, blocks}
-use Rattle.rules.specs.Step.{State, movedX, projected, updated, xX, xY, xS}
-use Rattle.rules.specs.declared.Norms.{Norms}
 use Rattle.rules.specs.declared.Criteria.{Criteria}
+use Rattle.rules.specs.declared.Norms.{Norms}
+use Rattle.rules.specs.declared.Shape.{Shape}
+use Rattle.rules.specs.declared.SolverParam.{SolverParam}
 use Rattle.rules.specs.declared.Verdict.{Verdict}
 use Rattle.rules.specs.declared.Verdict.the-variants.{GoesOn, Ends}
 use Rattle.rules.specs.Limits.{limit, mostSweeps}
-use Rattle.rules.specs.Criteria.{judged}
+use Rattle.rules.specs.Product.{Failure, none, block, Passed, projAll, isNone}
+use Rattle.rules.specs.Problem.{Problem, problemIn, embed, blocks}
+use Rattle.rules.specs.Step.{State, movedX, projected, updated, xX, xY, xS}
 use Rattle.rules.specs.Run.{wholeStep, verdict, allowance, runFrom, isConeFailure}
 use Rattle.rules.proofs.Run.{goes-on-exactly, run-more}
 use Rattle.project.specs.Project.{ConesReady}
-use Rattle.step.specs.Update.{stateOf, StepOutcome}
-use Rattle.project.proofs.Cones.{pass-rotations, answer-done, answer-failed, answer-some}
-use Rattle.step.proofs.Updated.{none-left}
-use Rattle.solver.specs.declared.run.StepAnswer.{StepAnswer}
+use Rattle.project.proofs.Cones.{pass-rotations}
+use Rattle.step.specs.Update.{stepFits, StepReady}
+use Rattle.step.proofs.Ready.{step-fits}
+use Rattle.whole_step.specs.declared.StepAnswer.{StepAnswer}
+use Rattle.whole_step.specs.declared.StepAnswer.the-variants.{Said, No}
+use Rattle.whole_step.specs.WholeStep.{leftByStep, WholeStepOutcome}
 use Rattle.solver.specs.Run.{SteppedBy, Iterated}
 
 -- ---- one step
 
-module _ (p : Problem) (ns : Norms) (s : State) where
-  step-failure : wholeStep p ns s .failure ≡ updated p s .failure
-  unfolding wholeStep
-  step-failure = refl
+stepped-by : {p : Problem} {ns : Norms} {k : ℕ} {s : State} {said : Verdict} {made : ℕ} {s' : State} → WholeStepOutcome true p ns k s (Said said made) s' → SteppedBy p ns k s said made s'
+unfolding leftByStep
+stepped-by {p} {ns} {k} {s} {said} {made} o =
+    let e = o .answered in
+    record { says = cc; counts = cc; state = λ f. o .left ∙ rw f }
 
-  step-rotations : wholeStep p ns s .rotations ≡ updated p s .rotations
-  unfolding wholeStep
-  step-rotations = refl
+never-no : {p : Problem} {ns : Norms} {k : ℕ} {s s' : State} → WholeStepOutcome true p ns k s No s' → ⊥
+never-no o = let e = o .answered in let z : _≡_ {A = ℕ} 0 1 = cc in omega arith
 
-  step-criteria : wholeStep p ns s .criteria ≡ judged (embed p) (p .par .«eps_zero») ns (updated p s .state .x) (updated p s .state .rx) .criteria
-  unfolding wholeStep
-  step-criteria = refl
+whole-true : {fits : Bool} {p : Problem} {ns : Norms} {k : ℕ} {s : State} {answer : StepAnswer} {s' : State} → fits ≡ true → WholeStepOutcome fits p ns k s answer s' → WholeStepOutcome true p ns k s answer s'
+whole-true e o = record { answered = rw e at (o .answered); left = rw e at (o .left) }
 
-  step-state : (v : State) → v ≡ updated p s .state → stateOf (v .x) (v .y) (v .dpTau) (v .dpSigma) (judged (embed p) (p .par .«eps_zero») ns (v .x) (v .rx) .rx) (v .tx) (v .cone) ≡ wholeStep p ns s .state
-  unfolding wholeStep
-  step-state v e = rw e
+-- what the loop learns of a step whose sizes fit
+module _ {par : SolverParam} {shape : Shape} {c a b : List Float} {words : List ℕ} {ns : Norms} {k : ℕ} {s : State} {answer : StepAnswer} {s' : State}
+    (r : StepReady par shape c a b words s) (o : WholeStepOutcome (stepFits par shape c a b words s) (problemIn shape c a b words par) ns k s answer s') where
+  pub said-by : {said : Verdict} {made : ℕ} → answer ≡ Said said made → SteppedBy (problemIn shape c a b words par) ns k s said made s'
+  said-by is = stepped-by (rw is at (whole-true (step-fits r) o))
 
-  judged-at : (k : ℕ) (v : State) → v ≡ updated p s .state → updated p s .failure ≡ none → verdict (p .par) k none (judged (embed p) (p .par .«eps_zero») ns (v .x) (v .rx) .criteria) ≡ verdict (p .par) k (wholeStep p ns s .failure) (wholeStep p ns s .criteria)
-  judged-at k v e f = rw (step-failure, step-criteria, e, f)
-
-  failed-at : (k b : ℕ) → updated p s .failure ≡ block b → Ends (ConeFailure b) ≡ verdict (p .par) k (wholeStep p ns s .failure) (wholeStep p ns s .criteria)
-  unfolding verdict
-  failed-at k b f = rw (step-failure, f)
-
-  module _ (k : ℕ) (v : State) {answer : Product} (u : StepOutcome true p s answer v) where
-    pub stepped-done : (q : ℕ) → answer ≡ Done q → (said : Verdict) → said ≡ verdict (p .par) k none (judged (embed p) (p .par .«eps_zero») ns (v .x) (v .rx) .criteria) → (rx' : List Float) → rx' ≡ judged (embed p) (p .par .«eps_zero») ns (v .x) (v .rx) .rx → SteppedBy p ns k s (record { verdict = said; rotations = q }) (stateOf (v .x) (v .y) (v .dpTau) (v .dpSigma) rx' (v .tx) (v .cone))
-    stepped-done q is said h rx' e =
-        let f = answer-done (updated p s .rotations) (updated p s .failure) q (sym is ∙ u .answered) in
-        let same : v ≡ updated p s .state = u .left ∙ none-left p s (f .0) in
-        record {
-          says = h ∙ judged-at k v same (f .0);
-          counts = sym (f .1) ∙ sym step-rotations;
-          state = λ g. rw e (step-state v same);
-        }
-
-    pub stepped-failed : (b q : ℕ) → answer ≡ Failed b q → (to : State) → SteppedBy p ns k s (record { verdict = Ends (ConeFailure b); rotations = q }) to
-    stepped-failed b q is to =
-        let f = answer-failed (updated p s .rotations) (updated p s .failure) b q (sym is ∙ u .answered) in
-        let failed : wholeStep p ns s .failure ≡ block b = step-failure ∙ f .0 in
-        record {
-          says = failed-at k b (f .0);
-          counts = sym (f .1) ∙ sym step-rotations;
-          state = λ g. let z : _≡_ {A = ℕ} 0 1 = cc in absurd (omega arith);
-        }
-
-    pub stepped-some : answer ≡ No → ⊥
-    stepped-some is = answer-some (updated p s .rotations) (updated p s .failure) (sym is ∙ u .answered)
+  pub some-said : answer ≡ No → ⊥
+  some-said is = never-no (rw is at (whole-true (step-fits r) o))
 
 -- ---- how many rotations a step takes
 
@@ -137,17 +110,17 @@ running-start p ns s =
     let same : suc (allowance (p .par) - 1) ≡ allowance (p .par) = omega arith in
     record { least = omega arith; most = omega arith; within = omega arith; left = rw same }
 
-module _ {p : Problem} {ns : Norms} {from : State} {k q : ℕ} {s : State} {r : StepAnswer} {to : State} (g : Running p ns from k q s) (t : SteppedBy p ns k s r to) where
-  pub running-counts : {c : ℕ} → ConesReady (p .par) (p .m) (p .words) c → r .rotations ≤ perStep
+module _ {p : Problem} {ns : Norms} {from : State} {k q : ℕ} {s : State} {said : Verdict} {made : ℕ} {to : State} (g : Running p ns from k q s) (t : SteppedBy p ns k s said made to) where
+  pub running-counts : {c : ℕ} → ConesReady (p .par) (p .m) (p .words) c → made ≤ perStep
   running-counts ready = omega (arith, t .counts, step-within p ns s ready)
 
-  goes : r .verdict ≡ GoesOn → (wholeStep p ns s .failure ≡ none) × (k < allowance (p .par))
+  goes : said ≡ GoesOn → (wholeStep p ns s .failure ≡ none) × (k < allowance (p .par))
   goes h = let e = goes-on-exactly p k (wholeStep p ns s .failure) (wholeStep p ns s .criteria) .exactly .0 (sym (t .says) ∙ h) in (e .0, e .2)
 
-  pub running-before : r .verdict ≡ GoesOn → k < allowance (p .par)
+  pub running-before : said ≡ GoesOn → k < allowance (p .par)
   running-before h = goes h .1
 
-  pub running-more : {c : ℕ} → ConesReady (p .par) (p .m) (p .words) c → r .verdict ≡ GoesOn → Running p ns from (k + 1) (q + r .rotations) to
+  pub running-more : {c : ℕ} → ConesReady (p .par) (p .m) (p .words) c → said ≡ GoesOn → Running p ns from (k + 1) (q + made) to
   running-more ready h =
       let e = goes h in
       let before : k < allowance (p .par) = e .1 in
@@ -161,7 +134,7 @@ module _ {p : Problem} {ns : Norms} {from : State} {k q : ℕ} {s : State} {r : 
         left = rw (one-less, t .counts, t .state (e .0)) (sym (rw v at step) ∙ g .left);
       }
 
-  pub running-end : (e : Ending) → r .verdict ≡ Ends e → Iterated p ns from (record { ending = e; steps = k; rotations = q + r .rotations }) to
+  pub running-end : (e : Ending) → said ≡ Ends e → Iterated p ns from (record { ending = e; steps = k; rotations = q + made }) to
   running-end e h =
       let v : verdict (p .par) k (wholeStep p ns s .failure) (wholeStep p ns s .criteria) ≡ Ends e = sym (t .says) ∙ h in
       let step = rw v at (run-more p ns (allowance (p .par) - k) k q s (wholeStep p ns s) (g .least) refl) in

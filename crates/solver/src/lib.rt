@@ -1,6 +1,5 @@
 // The solver: an entry point that checks for itself.
 mod entry;
-mod judge;
 mod run;
 mod solving;
 

@@ -1,24 +1,17 @@
 // The run: a loop over steps, up to the one that ends.
-use crate::judge;
 use rules::Answer;
 use rules::Ending;
 use rules::Norms;
-use rules::Product;
 use rules::Shape;
 use rules::SolverParam;
 use rules::Verdict;
-use step::update_vecs;
+use whole_step::StepAnswer;
+use whole_step::whole_step;
 ghost use Prim.Native.Nat.{_≤_};
 ghost use Rattle.rules.specs.Limits.{mostSteps};
 ghost use Rattle.rules.specs.Problem.{problemIn};
 ghost use Rattle.step.specs.Update.{stateOf, StepReady};
-ghost use Rattle.solver.specs.Run.{SteppedBy, Iterated};
-
-// A step's verdict, with the rotations that it made.
-pub struct StepAnswer {
-    pub verdict: Verdict,
-    pub rotations: u64,
-}
+ghost use Rattle.solver.specs.Run.{Iterated};
 
 // The steps from the first on.
 pub(crate) fn iterate(
@@ -44,7 +37,7 @@ pub(crate) fn iterate(
     let mut k: u64 = 1;
     let mut q: u64 = 0;
     loop {
-        let t = step_on(
+        let t = whole_step(
             par,
             shape,
             c,
@@ -61,77 +54,30 @@ pub(crate) fn iterate(
             tx,
             cone_work,
         );
-        q = q + t.rotations;
-        let v = t.verdict;
-        match v {
-            Verdict::Ends(e) => {
+        match t {
+            StepAnswer::Said(v, made) => {
+                q = q + made;
+                match v {
+                    Verdict::Ends(e) => {
+                        return Answer {
+                            ending: e,
+                            steps: k,
+                            rotations: q,
+                        };
+                    }
+                    Verdict::GoesOn => {
+                        k = k + 1;
+                    }
+                }
+            }
+            // the sizes always fit here
+            StepAnswer::No => {
                 return Answer {
-                    ending: e,
+                    ending: Ending::ConeFailure(0),
                     steps: k,
                     rotations: q,
                 };
             }
-            Verdict::GoesOn => {
-                k = k + 1;
-            }
         }
-    }
-}
-
-// One whole step, and whether it ends.
-fn step_on(
-    par: SolverParam,
-    shape: Shape,
-    c: &[f64],
-    a: &[f64],
-    b: &[f64],
-    words: &[u16],
-    norms: Norms,
-    k: u64,
-    x: &mut [f64],
-    y: &mut [f64],
-    dp_tau: &[f64],
-    dp_sigma: &[f64],
-    rx: &mut [f64],
-    tx: &mut [f64],
-    cone_work: &mut [f64],
-) -> StepAnswer
-    requires { ⌜ StepReady par shape (now c) (now a) (now b) (now words) (stateOf (now x) (now y) (now «dp_tau») (now «dp_sigma») (now rx) (now tx) (now «cone_work»)) ⌝ }
-    ensures { λ r. ⌜ SteppedBy (problemIn shape (now (c .entry)) (now (a .entry)) (now (b .entry)) (now (words .entry)) par) norms k (stateOf (now (x .entry)) (now (y .entry)) (now («dp_tau» .entry)) (now («dp_sigma» .entry)) (now (rx .entry)) (now (tx .entry)) (now («cone_work» .entry))) r (stateOf (now (x .exit)) (now (y .exit)) (now («dp_tau» .entry)) (now («dp_sigma» .entry)) (now (rx .exit)) (now (tx .exit)) (now («cone_work» .exit))) ⌝ }
-{
-    let p = update_vecs(
-        par,
-        shape,
-        c,
-        a,
-        b,
-        words,
-        x,
-        y,
-        dp_tau,
-        dp_sigma,
-        rx,
-        tx,
-        cone_work,
-    );
-    match p {
-        Product::Done(q) => {
-            let v = judge::judge(par, shape, c, a, b, norms, k, x, rx);
-            StepAnswer {
-                verdict: v,
-                rotations: q,
-            }
-        }
-        Product::Failed(block, q) => {
-            StepAnswer {
-                verdict: Verdict::Ends(Ending::ConeFailure(block)),
-                rotations: q,
-            }
-        }
-        // the sizes always fit here
-        Product::No => StepAnswer {
-            verdict: Verdict::Ends(Ending::ConeFailure(0)),
-            rotations: 0,
-        },
     }
 }

@@ -39,6 +39,12 @@ step-ready par shape c a b words s h o l =
       tx-like = like-x shape (s .tx) (tx .1);
     }
 
+pub fits-ready : (par : SolverParam) (shape : Shape) (c a b : List Float) (words : List ℕ) (s : State) → stepFits par shape c a b words s ≡ true → StepReady par shape c a b words s
+fits-ready par shape c a b words s h =
+    let p = both-true (vectorsFit shape (s .x) (s .y) (s .dpTau) (s .dpSigma) (s .rx) (s .tx) && operatorsFit shape c a b) (lengthsFit par words (shape .rows .0) (length (s .cone))) h in
+    let q = both-true (vectorsFit shape (s .x) (s .y) (s .dpTau) (s .dpSigma) (s .rx) (s .tx)) (operatorsFit shape c a b) (p .0) in
+    step-ready par shape c a b words s (q .0) (q .1) (p .1)
+
 pub step-fits : {par : SolverParam} {shape : Shape} {c a b : List Float} {words : List ℕ} {s : State} → StepReady par shape c a b words s → stepFits par shape c a b words s ≡ true
 step-fits r =
     let w = sizes-within (r .operators) in

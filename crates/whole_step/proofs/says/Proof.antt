@@ -1,8 +1,8 @@
--- `solver::judge::says` meets its contract.
+-- `whole_step::says` meets its contract.
 use mathlib.Core.Path.{_∙_}
 use borrow.Author.Needs.{needs}
-use Rattle.solver.proofs.judge.says.Statement.{statement}
-use Rattle.solver.proofs.judge.says.Tie as tie
+use Rattle.whole_step.proofs.says.Statement.{statement}
+use Rattle.whole_step.proofs.says.Tie as tie
 
 enum-known-found : tie.Need-enum-known-found
 enum-known-found c = search needs

@@ -1,4 +1,4 @@
--- `solver::judge::judge` meets its contract.
+-- `whole_step::judge` meets its contract.
 use native.Mathlib.Omega.{arith}
 use Prim.Native.Nat.{ℕ}
 use mathlib.Core.Path.{_≡_, sym, ap, _∙_}
@@ -8,8 +8,8 @@ use Rattle.rules.specs.Product.{none}
 use Rattle.rules.specs.Run.{verdict}
 use Rattle.criteria.specs.declared.Judgement.the-variants.{Of, No}
 use Rattle.criteria.proofs.Judging.{judge-fits, judge-ruled}
-use Rattle.solver.proofs.judge.judge.Statement.{statement}
-use Rattle.solver.proofs.judge.judge.Tie as tie
+use Rattle.whole_step.proofs.judge.Statement.{statement}
+use Rattle.whole_step.proofs.judge.Tie as tie
 
 same : {found ruled : Criteria} → Of found ≡ Of ruled → found ≡ ruled
 same e = cc

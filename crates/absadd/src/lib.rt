@@ -14,7 +14,10 @@ ghost use Rattle.absadd.specs.Columns.{absadded, columnAdded};
 
 // The absolute sum of each column is added to y.
 pub fn absadd_cols(t: MatType, mat: &[f64], y: &mut [f64]) -> bool
-    ensures { λ r. ⌜ Outcome (colsFit t (now (mat .entry)) (now (y .entry))) (absaddedCols t (now (mat .entry)) (now (y .entry))) (now (y .entry)) r (now (y .exit)) ⌝ }
+    ensures { λ r. ⌜
+        Outcome (colsFit t (now (mat .entry)) (now (y .entry)))
+        (absaddedCols t (now (mat .entry)) (now (y .entry))) (now (y .entry)) r (now (y .exit))
+        ⌝ }
 {
     match t {
         MatType::General(rows, cols) => absadd_dense(false, rows, cols, mat, y),
@@ -24,7 +27,10 @@ pub fn absadd_cols(t: MatType, mat: &[f64], y: &mut [f64]) -> bool
 
 // The absolute sum of each row is added to y.
 pub fn absadd_rows(t: MatType, mat: &[f64], y: &mut [f64]) -> bool
-    ensures { λ r. ⌜ Outcome (rowsFit t (now (mat .entry)) (now (y .entry))) (absaddedRows t (now (mat .entry)) (now (y .entry))) (now (y .entry)) r (now (y .exit)) ⌝ }
+    ensures { λ r. ⌜
+        Outcome (rowsFit t (now (mat .entry)) (now (y .entry)))
+        (absaddedRows t (now (mat .entry)) (now (y .entry))) (now (y .entry)) r (now (y .exit))
+        ⌝ }
 {
     match t {
         MatType::General(rows, cols) => absadd_dense(true, rows, cols, mat, y),
@@ -34,7 +40,11 @@ pub fn absadd_rows(t: MatType, mat: &[f64], y: &mut [f64]) -> bool
 
 // The sums of the columns, or of the columns of the matrix transposed.
 fn absadd_dense(transpose: bool, rows: Rows, cols: Cols, mat: &[f64], y: &mut [f64]) -> bool
-    ensures { λ r. ⌜ Outcome (lineFits transpose (General rows cols) (now (mat .entry)) (now (y .entry))) (absadded transpose (General rows cols) (now (mat .entry)) (now (y .entry))) (now (y .entry)) r (now (y .exit)) ⌝ }
+    ensures { λ r. ⌜
+        Outcome (lineFits transpose (General rows cols) (now (mat .entry)) (now (y .entry)))
+        (absadded transpose (General rows cols) (now (mat .entry)) (now (y .entry))) (now (y .entry)) r
+        (now (y .exit))
+        ⌝ }
 {
     let t = MatType::General(rows, cols);
     if !matrix::stored_fits(t, mat) {
@@ -70,7 +80,10 @@ fn line_sum(transpose: bool, rows: Rows, cols: Cols, mat: &[f64], k: usize) -> f
 
 // The sums of the columns of a packed matrix, which are those of its rows.
 fn absadd_packed(rows: Rows, mat: &[f64], y: &mut [f64]) -> bool
-    ensures { λ r. ⌜ Outcome (colsFit (SymPack rows) (now (mat .entry)) (now (y .entry))) (absaddedCols (SymPack rows) (now (mat .entry)) (now (y .entry))) (now (y .entry)) r (now (y .exit)) ⌝ }
+    ensures { λ r. ⌜
+        Outcome (colsFit (SymPack rows) (now (mat .entry)) (now (y .entry)))
+        (absaddedCols (SymPack rows) (now (mat .entry)) (now (y .entry))) (now (y .entry)) r (now (y .exit))
+        ⌝ }
 {
     if !matrix::stored_fits(MatType::SymPack(rows), mat) {
         return false;

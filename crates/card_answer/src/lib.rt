@@ -108,7 +108,11 @@ fn solve_fields(
     requires { ⌜ rows .0 ≤ 32 ⌝ }
     requires { ⌜ cols .0 ≤ 32 ⌝ }
     requires { ⌜ 1091 ≤ length (now numbers) ⌝ }
-    ensures { λ r. ⌜ SolveOutcome (problemFrom packed rows cols (now (words .entry)) «max_iter» «sweep_limit» (now (numbers .entry))) (now (work .entry)) (now («cone_work» .entry)) r (now (work .exit)) (now («cone_work» .exit)) ⌝ }
+    ensures { λ r. ⌜
+        SolveOutcome
+        (problemFrom packed rows cols (now (words .entry)) «max_iter» «sweep_limit» (now (numbers .entry)))
+        (now (work .entry)) (now («cone_work» .entry)) r (now (work .exit)) (now («cone_work» .exit))
+        ⌝ }
 {
     let m = rows.0;
     let n = cols.0;
@@ -146,7 +150,10 @@ fn answer_fields(
     requires { ⌜ cols .0 ≤ 32 ⌝ }
     requires { ⌜ count ≤ length (now words) ⌝ }
     requires { ⌜ 1091 ≤ length (now numbers) ⌝ }
-    ensures { λ r. ⌜ FieldsOutcome packed rows cols (take count (now (words .entry))) «max_iter» «sweep_limit» (now (numbers .entry)) (now (work .entry)) r (now (work .exit)) ⌝ }
+    ensures { λ r. ⌜
+        FieldsOutcome packed rows cols (take count (now (words .entry))) «max_iter» «sweep_limit»
+        (now (numbers .entry)) (now (work .entry)) r (now (work .exit))
+        ⌝ }
 {
     let mut cone_work = [0.0; CONE_WORK];
     let answer = solve_fields(

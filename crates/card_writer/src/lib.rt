@@ -123,7 +123,12 @@ fn write_bytes(
     requires { ⌜ length (now numbers) ≤ 1091 ⌝ }
     requires { ⌜ count ≤ 8861 ⌝ }
     requires { ⌜ count ≤ length (now bytes) ⌝ }
-    ensures { λ r. ⌜ now (bytes .exit) ≡ bytesOf count (cardBits (cardOf packed rows cols (now (words .entry)) «max_iter» «sweep_limit» (now (numbers .entry)))) ++ drop count (now (bytes .entry)) ⌝ }
+    ensures { λ r. ⌜
+        now (bytes .exit)
+        ≡ bytesOf count
+        (cardBits (cardOf packed rows cols (now (words .entry)) «max_iter» «sweep_limit» (now (numbers .entry))))
+        ++ drop count (now (bytes .entry))
+        ⌝ }
 {
     for i in 0..count {
         bytes[i] = card_byte(packed, rows, cols, words, max_iter, sweep_limit, numbers, i) as u8;
@@ -142,7 +147,11 @@ pub fn write_card(
     numbers: &[u64],
     bytes: &mut [u8],
 ) -> Written
-    ensures { λ r. ⌜ WriteOutcome (cardOf packed rows cols (now (words .entry)) «max_iter» «sweep_limit» (now (numbers .entry))) (now (bytes .entry)) r (now (bytes .exit)) ⌝ }
+    ensures { λ r. ⌜
+        WriteOutcome
+        (cardOf packed rows cols (now (words .entry)) «max_iter» «sweep_limit» (now (numbers .entry)))
+        (now (bytes .entry)) r (now (bytes .exit))
+        ⌝ }
 {
     let n = cols.0;
     let m = rows.0;

@@ -28,7 +28,13 @@ pub fn check(
     work: usize,
     cone_work: usize,
 ) -> Refusal
-    ensures { λ r. ⌜ r ≡ refusal (problemOf (rows .0) (cols .0) storage (now (c .entry)) (now (a .entry)) (now (b .entry)) (now (words .entry)) par) work «cone_work» ⌝ }
+    ensures { λ r. ⌜
+        r
+        ≡ refusal
+        (problemOf (rows .0) (cols .0) storage (now (c .entry)) (now (a .entry)) (now (b .entry))
+        (now (words .entry)) par)
+        work «cone_work»
+        ⌝ }
 {
     let m = rows.0;
     let n = cols.0;

@@ -105,7 +105,11 @@ fn proj_rotsoc(x: &mut [f64])
 // Projects one block: a semidefinite one takes rotations, and its sweeps may fail to end. Where sizes or the sweep limit don't fit, it
 // answers no and changes nothing.
 pub fn proj(par: SolverParam, dual: bool, cone: Cone, x: &mut [f64], work: &mut [f64]) -> Projection
-    ensures { λ r. ⌜ BlockOutcome (blockFits par cone (now (x .entry)) (now (work .entry))) (projBlock par dual cone (now (x .entry)) (now (work .entry))) (now (x .entry)) (now (work .entry)) r (now (x .exit)) (now (work .exit)) ⌝ }
+    ensures { λ r. ⌜
+        BlockOutcome (blockFits par cone (now (x .entry)) (now (work .entry)))
+        (projBlock par dual cone (now (x .entry)) (now (work .entry))) (now (x .entry)) (now (work .entry)) r
+        (now (x .exit)) (now (work .exit))
+        ⌝ }
 {
     if !block_fits(par, cone, x.len(), work.len()) {
         return Projection::No;

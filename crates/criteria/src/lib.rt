@@ -40,7 +40,13 @@ pub fn judge(
     x: &[f64],
     rx: &mut [f64],
 ) -> Judgement
-    ensures { λ r. ⌜ JudgeOutcome (judgeFits shape (now (c .entry)) (now (a .entry)) (now (b .entry)) (now (x .entry)) (now (rx .entry))) (judged (embedIn shape (now (c .entry)) (now (a .entry)) (now (b .entry))) (par .«eps_zero») norms (now (x .entry)) (now (rx .entry))) (now (rx .entry)) r (now (rx .exit)) ⌝ }
+    ensures { λ r. ⌜
+        JudgeOutcome
+        (judgeFits shape (now (c .entry)) (now (a .entry)) (now (b .entry)) (now (x .entry)) (now (rx .entry)))
+        (judged (embedIn shape (now (c .entry)) (now (a .entry)) (now (b .entry))) (par .«eps_zero») norms
+        (now (x .entry)) (now (rx .entry)))
+        (now (rx .entry)) r (now (rx .exit))
+        ⌝ }
 {
     if !fits(shape, c, a, b, x, rx) {
         return Judgement::No;
@@ -63,8 +69,16 @@ fn judge_by_tau(
     requires { ⌜ Fits shape (now c) (now a) (now b) ⌝ }
     requires { ⌜ LikeX shape (now x) ⌝ }
     requires { ⌜ LikeX shape (now rx) ⌝ }
-    ensures says { λ r. ⌜ r ≡ judged (embedIn shape (now (c .entry)) (now (a .entry)) (now (b .entry))) (par .«eps_zero») norms (now (x .entry)) (now (rx .entry)) .criteria ⌝ }
-    ensures rx_left { λ r. ⌜ now (rx .exit) ≡ judged (embedIn shape (now (c .entry)) (now (a .entry)) (now (b .entry))) (par .«eps_zero») norms (now (x .entry)) (now (rx .entry)) .rx ⌝ }
+    ensures says { λ r. ⌜
+        r
+        ≡ judged (embedIn shape (now (c .entry)) (now (a .entry)) (now (b .entry))) (par .«eps_zero») norms
+        (now (x .entry)) (now (rx .entry)) .criteria
+        ⌝ }
+    ensures rx_left { λ r. ⌜
+        now (rx .exit)
+        ≡ judged (embedIn shape (now (c .entry)) (now (a .entry)) (now (b .entry))) (par .«eps_zero») norms
+        (now (x .entry)) (now (rx .entry)) .rx
+        ⌝ }
 {
     let m = shape.rows.0;
     let n = shape.cols.0;
@@ -101,8 +115,16 @@ fn criteria_conv(
     requires { ⌜ Fits shape (now c) (now a) (now b) ⌝ }
     requires { ⌜ LikeX shape (now x) ⌝ }
     requires { ⌜ LikeX shape (now rx) ⌝ }
-    ensures says { λ r. ⌜ r ≡ converging (embedIn shape (now (c .entry)) (now (a .entry)) (now (b .entry))) norms (now (x .entry)) (now (rx .entry)) .criteria ⌝ }
-    ensures rx_left { λ r. ⌜ now (rx .exit) ≡ converging (embedIn shape (now (c .entry)) (now (a .entry)) (now (b .entry))) norms (now (x .entry)) (now (rx .entry)) .rx ⌝ }
+    ensures says { λ r. ⌜
+        r
+        ≡ converging (embedIn shape (now (c .entry)) (now (a .entry)) (now (b .entry))) norms (now (x .entry))
+        (now (rx .entry)) .criteria
+        ⌝ }
+    ensures rx_left { λ r. ⌜
+        now (rx .exit)
+        ≡ converging (embedIn shape (now (c .entry)) (now (a .entry)) (now (b .entry))) norms (now (x .entry))
+        (now (rx .entry)) .rx
+        ⌝ }
 {
     let m = shape.rows.0;
     let n = shape.cols.0;
@@ -205,8 +227,16 @@ fn criteria_inf(
     requires { ⌜ Fits shape (now c) (now a) (now b) ⌝ }
     requires { ⌜ LikeX shape (now x) ⌝ }
     requires { ⌜ LikeX shape (now rx) ⌝ }
-    ensures says { λ r. ⌜ r ≡ diverging (embedIn shape (now (c .entry)) (now (a .entry)) (now (b .entry))) (par .«eps_zero») norms (now (x .entry)) (now (rx .entry)) .criteria ⌝ }
-    ensures rx_left { λ r. ⌜ now (rx .exit) ≡ diverging (embedIn shape (now (c .entry)) (now (a .entry)) (now (b .entry))) (par .«eps_zero») norms (now (x .entry)) (now (rx .entry)) .rx ⌝ }
+    ensures says { λ r. ⌜
+        r
+        ≡ diverging (embedIn shape (now (c .entry)) (now (a .entry)) (now (b .entry))) (par .«eps_zero») norms
+        (now (x .entry)) (now (rx .entry)) .criteria
+        ⌝ }
+    ensures rx_left { λ r. ⌜
+        now (rx .exit)
+        ≡ diverging (embedIn shape (now (c .entry)) (now (a .entry)) (now (b .entry))) (par .«eps_zero») norms
+        (now (x .entry)) (now (rx .entry)) .rx
+        ⌝ }
 {
     let m = shape.rows.0;
     let n = shape.cols.0;

@@ -104,7 +104,10 @@ fn sweep_block(par: SolverParam, n: usize, mat: &mut [f64], work: &mut [f64]) ->
     requires { ⌜ IsPacked n (now mat) ⌝ }
     requires { ⌜ n + n * n ≤ length (now work) ⌝ }
     requires { ⌜ sweepsFit par ≡ true ⌝ }
-    ensures { λ r. ⌜ SweptBlock n (jacobi par n (diagonalTimes √2 n (now (mat .entry))) (unit n)) (now (work .entry)) r (now (mat .exit)) (now (work .exit)) ⌝ }
+    ensures { λ r. ⌜
+        SweptBlock n (jacobi par n (diagonalTimes √2 n (now (mat .entry))) (unit n)) (now (work .entry)) r
+        (now (mat .exit)) (now (work .exit))
+        ⌝ }
 {
     scale_diagonal(n, root_two(), mat);
     start(n, &mut work[n..n + n * n]);
@@ -124,7 +127,11 @@ fn rebuild_block(n: usize, mat: &mut [f64], work: &mut [f64])
 
 // The projection of a semidefinite block.
 pub fn map_eig(par: SolverParam, order: usize, mat: &mut [f64], work: &mut [f64]) -> Projection
-    ensures { λ r. ⌜ BlockOutcome (blockFits par (PSD order) (now (mat .entry)) (now (work .entry))) (projPSD par order (now (mat .entry)) (now (work .entry))) (now (mat .entry)) (now (work .entry)) r (now (mat .exit)) (now (work .exit)) ⌝ }
+    ensures { λ r. ⌜
+        BlockOutcome (blockFits par (PSD order) (now (mat .entry)) (now (work .entry)))
+        (projPSD par order (now (mat .entry)) (now (work .entry))) (now (mat .entry)) (now (work .entry)) r
+        (now (mat .exit)) (now (work .exit))
+        ⌝ }
 {
     if !block_fits(par, Cone::PSD(order), mat.len(), work.len()) {
         return Projection::No;

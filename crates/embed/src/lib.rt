@@ -22,7 +22,13 @@ pub fn op(
     beta: f64,
     y: &mut [f64],
 ) -> bool
-    ensures { λ r. ⌜ Outcome (embedFits shape (now (c .entry)) (now (a .entry)) (now (b .entry)) (now (x .entry)) (now (y .entry))) (opK (embedIn shape (now (c .entry)) (now (a .entry)) (now (b .entry))) alpha (now (x .entry)) beta (now (y .entry))) (now (y .entry)) r (now (y .exit)) ⌝ }
+    ensures { λ r. ⌜
+        Outcome
+        (embedFits shape (now (c .entry)) (now (a .entry)) (now (b .entry)) (now (x .entry)) (now (y .entry)))
+        (opK (embedIn shape (now (c .entry)) (now (a .entry)) (now (b .entry))) alpha (now (x .entry)) beta
+        (now (y .entry)))
+        (now (y .entry)) r (now (y .exit))
+        ⌝ }
 {
     if !embed_fits(shape, c, a, b, x, y) {
         return false;
@@ -44,7 +50,11 @@ fn op_all(
     requires { ⌜ Fits shape (now c) (now a) (now b) ⌝ }
     requires { ⌜ LikeX shape (now x) ⌝ }
     requires { ⌜ LikeY shape (now y) ⌝ }
-    ensures { λ _. ⌜ now (y .exit) ≡ opK (embedIn shape (now (c .entry)) (now (a .entry)) (now (b .entry))) alpha (now (x .entry)) beta (now (y .entry)) ⌝ }
+    ensures { λ _. ⌜
+        now (y .exit)
+        ≡ opK (embedIn shape (now (c .entry)) (now (a .entry)) (now (b .entry))) alpha (now (x .entry)) beta
+        (now (y .entry))
+        ⌝ }
 {
     let m = shape.rows.0;
     let n = shape.cols.0;
@@ -68,7 +78,11 @@ fn op_n(
     requires { ⌜ Fits shape (now c) (now a) (now b) ⌝ }
     requires { ⌜ LikeX shape (now x) ⌝ }
     requires { ⌜ length (now «y_n») ≡ shape .cols .0 ⌝ }
-    ensures { λ _. ⌜ now («y_n» .exit) ≡ onN (embedIn shape (now (c .entry)) (now (a .entry)) (now (b .entry))) alpha (now (x .entry)) beta (now («y_n» .entry)) ⌝ }
+    ensures { λ _. ⌜
+        now («y_n» .exit)
+        ≡ onN (embedIn shape (now (c .entry)) (now (a .entry)) (now (b .entry))) alpha (now (x .entry)) beta
+        (now («y_n» .entry))
+        ⌝ }
 {
     let m = shape.rows.0;
     let n = shape.cols.0;
@@ -93,7 +107,11 @@ fn op_m(
     requires { ⌜ Fits shape (now c) (now a) (now b) ⌝ }
     requires { ⌜ LikeX shape (now x) ⌝ }
     requires { ⌜ length (now «y_m») ≡ shape .rows .0 ⌝ }
-    ensures { λ _. ⌜ now («y_m» .exit) ≡ onM (embedIn shape (now (c .entry)) (now (a .entry)) (now (b .entry))) alpha (now (x .entry)) beta (now («y_m» .entry)) ⌝ }
+    ensures { λ _. ⌜
+        now («y_m» .exit)
+        ≡ onM (embedIn shape (now (c .entry)) (now (a .entry)) (now (b .entry))) alpha (now (x .entry)) beta
+        (now («y_m» .entry))
+        ⌝ }
 {
     let m = shape.rows.0;
     let n = shape.cols.0;
@@ -119,7 +137,11 @@ fn op_1(
     requires { ⌜ Fits shape (now c) (now a) (now b) ⌝ }
     requires { ⌜ LikeX shape (now x) ⌝ }
     requires { ⌜ length (now «y_1») ≡ 1 ⌝ }
-    ensures { λ _. ⌜ now («y_1» .exit) ≡ on1 (embedIn shape (now (c .entry)) (now (a .entry)) (now (b .entry))) alpha (now (x .entry)) beta (now («y_1» .entry)) ⌝ }
+    ensures { λ _. ⌜
+        now («y_1» .exit)
+        ≡ on1 (embedIn shape (now (c .entry)) (now (a .entry)) (now (b .entry))) alpha (now (x .entry)) beta
+        (now («y_1» .entry))
+        ⌝ }
 {
     let m = shape.rows.0;
     let n = shape.cols.0;

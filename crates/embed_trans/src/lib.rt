@@ -22,7 +22,13 @@ pub fn trans_op(
     beta: f64,
     x: &mut [f64],
 ) -> bool
-    ensures { λ r. ⌜ Outcome (embedFits shape (now (c .entry)) (now (a .entry)) (now (b .entry)) (now (x .entry)) (now (y .entry))) (transOpK (embedIn shape (now (c .entry)) (now (a .entry)) (now (b .entry))) alpha (now (y .entry)) beta (now (x .entry))) (now (x .entry)) r (now (x .exit)) ⌝ }
+    ensures { λ r. ⌜
+        Outcome
+        (embedFits shape (now (c .entry)) (now (a .entry)) (now (b .entry)) (now (x .entry)) (now (y .entry)))
+        (transOpK (embedIn shape (now (c .entry)) (now (a .entry)) (now (b .entry))) alpha (now (y .entry)) beta
+        (now (x .entry)))
+        (now (x .entry)) r (now (x .exit))
+        ⌝ }
 {
     if !embed_fits(shape, c, a, b, x, y) {
         return false;
@@ -44,7 +50,11 @@ fn trans_all(
     requires { ⌜ Fits shape (now c) (now a) (now b) ⌝ }
     requires { ⌜ LikeY shape (now y) ⌝ }
     requires { ⌜ LikeX shape (now x) ⌝ }
-    ensures { λ _. ⌜ now (x .exit) ≡ transOpK (embedIn shape (now (c .entry)) (now (a .entry)) (now (b .entry))) alpha (now (y .entry)) beta (now (x .entry)) ⌝ }
+    ensures { λ _. ⌜
+        now (x .exit)
+        ≡ transOpK (embedIn shape (now (c .entry)) (now (a .entry)) (now (b .entry))) alpha (now (y .entry))
+        beta (now (x .entry))
+        ⌝ }
 {
     let m = shape.rows.0;
     let n = shape.cols.0;
@@ -70,7 +80,11 @@ fn trans_x(
     requires { ⌜ Fits shape (now c) (now a) (now b) ⌝ }
     requires { ⌜ LikeY shape (now y) ⌝ }
     requires { ⌜ length (now «x_x») ≡ shape .cols .0 ⌝ }
-    ensures { λ _. ⌜ now («x_x» .exit) ≡ backX (embedIn shape (now (c .entry)) (now (a .entry)) (now (b .entry))) alpha (now (y .entry)) beta (now («x_x» .entry)) ⌝ }
+    ensures { λ _. ⌜
+        now («x_x» .exit)
+        ≡ backX (embedIn shape (now (c .entry)) (now (a .entry)) (now (b .entry))) alpha (now (y .entry)) beta
+        (now («x_x» .entry))
+        ⌝ }
 {
     let m = shape.rows.0;
     let n = shape.cols.0;
@@ -94,7 +108,11 @@ fn trans_y(
     requires { ⌜ Fits shape (now c) (now a) (now b) ⌝ }
     requires { ⌜ LikeY shape (now y) ⌝ }
     requires { ⌜ length (now «x_y») ≡ shape .rows .0 ⌝ }
-    ensures { λ _. ⌜ now («x_y» .exit) ≡ backY (embedIn shape (now (c .entry)) (now (a .entry)) (now (b .entry))) alpha (now (y .entry)) beta (now («x_y» .entry)) ⌝ }
+    ensures { λ _. ⌜
+        now («x_y» .exit)
+        ≡ backY (embedIn shape (now (c .entry)) (now (a .entry)) (now (b .entry))) alpha (now (y .entry)) beta
+        (now («x_y» .entry))
+        ⌝ }
 {
     let m = shape.rows.0;
     let n = shape.cols.0;
@@ -118,7 +136,11 @@ fn trans_s(
     requires { ⌜ Fits shape (now c) (now a) (now b) ⌝ }
     requires { ⌜ LikeY shape (now y) ⌝ }
     requires { ⌜ length (now «x_s») ≡ shape .rows .0 ⌝ }
-    ensures { λ _. ⌜ now («x_s» .exit) ≡ backS (embedIn shape (now (c .entry)) (now (a .entry)) (now (b .entry))) alpha (now (y .entry)) beta (now («x_s» .entry)) ⌝ }
+    ensures { λ _. ⌜
+        now («x_s» .exit)
+        ≡ backS (embedIn shape (now (c .entry)) (now (a .entry)) (now (b .entry))) alpha (now (y .entry)) beta
+        (now («x_s» .entry))
+        ⌝ }
 {
     let m = shape.rows.0;
     let n = shape.cols.0;
@@ -140,7 +162,11 @@ fn trans_tau(
     requires { ⌜ Fits shape (now c) (now a) (now b) ⌝ }
     requires { ⌜ LikeY shape (now y) ⌝ }
     requires { ⌜ length (now «x_tau») ≡ 1 ⌝ }
-    ensures { λ _. ⌜ now («x_tau» .exit) ≡ backTau (embedIn shape (now (c .entry)) (now (a .entry)) (now (b .entry))) alpha (now (y .entry)) beta (now («x_tau» .entry)) ⌝ }
+    ensures { λ _. ⌜
+        now («x_tau» .exit)
+        ≡ backTau (embedIn shape (now (c .entry)) (now (a .entry)) (now (b .entry))) alpha (now (y .entry)) beta
+        (now («x_tau» .entry))
+        ⌝ }
 {
     let m = shape.rows.0;
     let n = shape.cols.0;

@@ -68,7 +68,10 @@ fn group_all(words: &[u16], xs: &mut [f64])
 
 // Gives each block of the kinds that go together its smallest value. Where the list doesn't fit, it answers no and changes nothing.
 pub fn product_group(words: &[u16], xs: &mut [f64]) -> bool
-    ensures { λ r. ⌜ Outcome (listFits (now (words .entry)) (now (xs .entry))) (groupAll (blocksOf (now (words .entry))) (now (xs .entry))) (now (xs .entry)) r (now (xs .exit)) ⌝ }
+    ensures { λ r. ⌜
+        Outcome (listFits (now (words .entry)) (now (xs .entry)))
+        (groupAll (blocksOf (now (words .entry))) (now (xs .entry))) (now (xs .entry)) r (now (xs .exit))
+        ⌝ }
 {
     if !list_fits(words, xs.len()) {
         return false;

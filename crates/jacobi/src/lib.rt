@@ -207,7 +207,11 @@ fn sizes_fit(par: SolverParam, n: usize, x: usize, z: usize) -> bool
 // Sweeps until one makes no rotation, or the limit is reached, and answers the rotations. Where the order, a length or the sweep limit
 // doesn't fit, it answers no and changes nothing.
 pub fn jacobi_eig(par: SolverParam, order: usize, x: &mut [f64], z: &mut [f64]) -> Projection
-    ensures { λ r. ⌜ JacobiOutcome (jacobiFits par order (length (now (x .entry))) (length (now (z .entry)))) (jacobi par order (now (x .entry)) (now (z .entry))) (now (x .entry)) (now (z .entry)) r (now (x .exit)) (now (z .exit)) ⌝ }
+    ensures { λ r. ⌜
+        JacobiOutcome (jacobiFits par order (length (now (x .entry))) (length (now (z .entry))))
+        (jacobi par order (now (x .entry)) (now (z .entry))) (now (x .entry)) (now (z .entry)) r (now (x .exit))
+        (now (z .exit))
+        ⌝ }
 {
     if !sizes_fit(par, order, x.len(), z.len()) {
         return Projection::No;

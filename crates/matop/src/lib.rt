@@ -7,14 +7,22 @@ ghost use Rattle.matop.specs.Operated.{operated};
 
 // y becomes alpha * matrix * x + beta * y.
 pub fn op(t: MatType, alpha: f64, mat: &[f64], x: &[f64], beta: f64, y: &mut [f64]) -> bool
-    ensures { λ r. ⌜ Outcome (opFits t (now (mat .entry)) (now (x .entry)) (now (y .entry))) (opped t alpha (now (mat .entry)) (now (x .entry)) beta (now (y .entry))) (now (y .entry)) r (now (y .exit)) ⌝ }
+    ensures { λ r. ⌜
+        Outcome (opFits t (now (mat .entry)) (now (x .entry)) (now (y .entry)))
+        (opped t alpha (now (mat .entry)) (now (x .entry)) beta (now (y .entry))) (now (y .entry)) r
+        (now (y .exit))
+        ⌝ }
 {
     operate(false, t, alpha, mat, x, beta, y)
 }
 
 // y becomes alpha * matrix transposed * x + beta * y.
 pub fn trans_op(t: MatType, alpha: f64, mat: &[f64], x: &[f64], beta: f64, y: &mut [f64]) -> bool
-    ensures { λ r. ⌜ Outcome (transOpFits t (now (mat .entry)) (now (x .entry)) (now (y .entry))) (transOpped t alpha (now (mat .entry)) (now (x .entry)) beta (now (y .entry))) (now (y .entry)) r (now (y .exit)) ⌝ }
+    ensures { λ r. ⌜
+        Outcome (transOpFits t (now (mat .entry)) (now (x .entry)) (now (y .entry)))
+        (transOpped t alpha (now (mat .entry)) (now (x .entry)) beta (now (y .entry))) (now (y .entry)) r
+        (now (y .exit))
+        ⌝ }
 {
     operate(true, t, alpha, mat, x, beta, y)
 }
@@ -29,7 +37,11 @@ fn operate(
     beta: f64,
     y: &mut [f64],
 ) -> bool
-    ensures { λ r. ⌜ Outcome (transformFits transpose t (now (mat .entry)) (now (x .entry)) (now (y .entry))) (operated transpose t alpha (now (mat .entry)) (now (x .entry)) beta (now (y .entry))) (now (y .entry)) r (now (y .exit)) ⌝ }
+    ensures { λ r. ⌜
+        Outcome (transformFits transpose t (now (mat .entry)) (now (x .entry)) (now (y .entry)))
+        (operated transpose t alpha (now (mat .entry)) (now (x .entry)) beta (now (y .entry))) (now (y .entry))
+        r (now (y .exit))
+        ⌝ }
 {
     if is_empty(t) {
         if !matrix::transform_fits(transpose, t, mat, x, y) {

@@ -27,7 +27,11 @@ pub fn calc_precond(
     dp_tau: &mut [f64],
     dp_sigma: &mut [f64],
 ) -> bool
-    ensures { λ r. ⌜ PrecondOutcome (problemIn shape (now (c .entry)) (now (a .entry)) (now (b .entry)) (now (words .entry)) par) (now («dp_tau» .entry)) (now («dp_sigma» .entry)) r (now («dp_tau» .exit)) (now («dp_sigma» .exit)) ⌝ }
+    ensures { λ r. ⌜
+        PrecondOutcome
+        (problemIn shape (now (c .entry)) (now (a .entry)) (now (b .entry)) (now (words .entry)) par)
+        (now («dp_tau» .entry)) (now («dp_sigma» .entry)) r (now («dp_tau» .exit)) (now («dp_sigma» .exit))
+        ⌝ }
 {
     if !fits(par, shape, c, a, b, words, dp_tau, dp_sigma) {
         return false;
@@ -47,7 +51,12 @@ fn fits(
     tau: &[f64],
     sigma: &[f64],
 ) -> bool
-    ensures { λ r. ⌜ r ≡ precondFits (problemIn shape (now (c .entry)) (now (a .entry)) (now (b .entry)) (now (words .entry)) par) (now (tau .entry)) (now (sigma .entry)) ⌝ }
+    ensures { λ r. ⌜
+        r
+        ≡ precondFits
+        (problemIn shape (now (c .entry)) (now (a .entry)) (now (b .entry)) (now (words .entry)) par)
+        (now (tau .entry)) (now (sigma .entry))
+        ⌝ }
 {
     if !operators_fit(shape, c, a, b) {
         return false;
@@ -76,8 +85,17 @@ fn precond_all(
     requires { ⌜ Covers shape (now words) ⌝ }
     requires { ⌜ LikeX shape (now «dp_tau») ⌝ }
     requires { ⌜ LikeY shape (now «dp_sigma») ⌝ }
-    ensures tau_left { λ _. ⌜ now («dp_tau» .exit) ≡ dpTauOf (problemIn shape (now (c .entry)) (now (a .entry)) (now (b .entry)) (now (words .entry)) par) (now («dp_tau» .entry)) ⌝ }
-    ensures sigma_left { λ _. ⌜ now («dp_sigma» .exit) ≡ dpSigmaOf (problemIn shape (now (c .entry)) (now (a .entry)) (now (b .entry)) (now (words .entry)) par) (now («dp_tau» .entry)) ⌝ }
+    ensures tau_left { λ _. ⌜
+        now («dp_tau» .exit)
+        ≡ dpTauOf (problemIn shape (now (c .entry)) (now (a .entry)) (now (b .entry)) (now (words .entry)) par)
+        (now («dp_tau» .entry))
+        ⌝ }
+    ensures sigma_left { λ _. ⌜
+        now («dp_sigma» .exit)
+        ≡ dpSigmaOf
+        (problemIn shape (now (c .entry)) (now (a .entry)) (now (b .entry)) (now (words .entry)) par)
+        (now («dp_tau» .entry))
+        ⌝ }
 {
     sums::abssum(shape, c, a, b, dp_tau, dp_sigma);
     diagonal(par.eps_zero, dp_tau);

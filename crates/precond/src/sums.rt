@@ -24,8 +24,16 @@ pub(crate) fn abssum(
     requires { ⌜ Fits shape (now c) (now a) (now b) ⌝ }
     requires { ⌜ LikeX shape (now tau) ⌝ }
     requires { ⌜ LikeY shape (now sigma) ⌝ }
-    ensures tau_left { λ _. ⌜ now (tau .exit) ≡ columnSums (embedIn shape (now (c .entry)) (now (a .entry)) (now (b .entry))) (scaled +0 (now (tau .entry))) ⌝ }
-    ensures sigma_left { λ _. ⌜ now (sigma .exit) ≡ rowSums (embedIn shape (now (c .entry)) (now (a .entry)) (now (b .entry))) (scaled +0 (now (tau .entry))) ⌝ }
+    ensures tau_left { λ _. ⌜
+        now (tau .exit)
+        ≡ columnSums (embedIn shape (now (c .entry)) (now (a .entry)) (now (b .entry)))
+        (scaled +0 (now (tau .entry)))
+        ⌝ }
+    ensures sigma_left { λ _. ⌜
+        now (sigma .exit)
+        ≡ rowSums (embedIn shape (now (c .entry)) (now (a .entry)) (now (b .entry)))
+        (scaled +0 (now (tau .entry)))
+        ⌝ }
 {
     linalg::scale(0.0, tau);
     column_sums(shape, c, a, b, tau);
@@ -74,7 +82,11 @@ fn sums_y(shape: Shape, c: &[f64], a: &[f64], b: &[f64], tau_y: &mut [f64])
 fn sums_tau(shape: Shape, c: &[f64], a: &[f64], b: &[f64], tau_tau: &mut [f64])
     requires { ⌜ Fits shape (now c) (now a) (now b) ⌝ }
     requires { ⌜ length (now «tau_tau») ≡ 1 ⌝ }
-    ensures { λ _. ⌜ now («tau_tau» .exit) ≡ withSumsTau (embedIn shape (now (c .entry)) (now (a .entry)) (now (b .entry))) (now («tau_tau» .entry)) ⌝ }
+    ensures { λ _. ⌜
+        now («tau_tau» .exit)
+        ≡ withSumsTau (embedIn shape (now (c .entry)) (now (a .entry)) (now (b .entry)))
+        (now («tau_tau» .entry))
+        ⌝ }
 {
     let m = shape.rows.0;
     let n = shape.cols.0;

@@ -30,7 +30,12 @@ pub fn prepare(
     dp_tau: &mut [f64],
     dp_sigma: &mut [f64],
 ) -> Prepared
-    ensures { λ r. ⌜ PreparedOutcome (problemIn shape (now (c .entry)) (now (a .entry)) (now (b .entry)) (now (words .entry)) par) (now (x .entry)) (now (y .entry)) (now («dp_tau» .entry)) (now («dp_sigma» .entry)) r (now (x .exit)) (now (y .exit)) (now («dp_tau» .exit)) (now («dp_sigma» .exit)) ⌝ }
+    ensures { λ r. ⌜
+        PreparedOutcome
+        (problemIn shape (now (c .entry)) (now (a .entry)) (now (b .entry)) (now (words .entry)) par)
+        (now (x .entry)) (now (y .entry)) (now («dp_tau» .entry)) (now («dp_sigma» .entry)) r (now (x .exit))
+        (now (y .exit)) (now («dp_tau» .exit)) (now («dp_sigma» .exit))
+        ⌝ }
 {
     if !fits_x(shape, x) {
         return Prepared::No;

@@ -26,7 +26,10 @@ pub(crate) fn start(
 ) -> Norms
     requires { ⌜ Fits shape (now c) (now a) (now b) ⌝ }
     requires { ⌜ LikeX shape (now x) ⌝ }
-    ensures { λ r. ⌜ Started (embedIn shape (now (c .entry)) (now (a .entry)) (now (b .entry))) (now (x .entry)) (now (y .entry)) r (now (x .exit)) (now (y .exit)) ⌝ }
+    ensures { λ r. ⌜
+        Started (embedIn shape (now (c .entry)) (now (a .entry)) (now (b .entry))) (now (x .entry))
+        (now (y .entry)) r (now (x .exit)) (now (y .exit))
+        ⌝ }
 {
     let norms = calc_norms(shape, c, a, b, x);
     init_vecs(shape, x, y);
@@ -37,7 +40,11 @@ pub(crate) fn start(
 fn calc_norms(shape: Shape, c: &[f64], a: &[f64], b: &[f64], x: &mut [f64]) -> Norms
     requires { ⌜ Fits shape (now c) (now a) (now b) ⌝ }
     requires { ⌜ LikeX shape (now x) ⌝ }
-    ensures x_left { λ _. ⌜ (let k = embedIn shape (now (c .entry)) (now (a .entry)) (now (b .entry)) in now (x .exit) ≡ withC k (withB k (now (x .entry)))) ⌝ }
+    ensures x_left { λ _. ⌜
+        (let k = embedIn shape (now (c .entry)) (now (a .entry)) (now (b .entry)) in
+        now (x .exit)
+        ≡ withC k (withB k (now (x .entry))))
+        ⌝ }
     ensures norms_are { λ r. ⌜ r ≡ norms (embedIn shape (now (c .entry)) (now (a .entry)) (now (b .entry))) (now (x .entry)) ⌝ }
 {
     let norm_b = norm_in(shape.rows.0, b, x);

@@ -59,7 +59,11 @@ pub fn product_fits(par: SolverParam, words: &[u16], len: usize, work: usize) ->
 // Projects the blocks of a list that fits.
 fn proj_all(par: SolverParam, dual: bool, words: &[u16], x: &mut [f64], work: &mut [f64]) -> Product
     requires { ⌜ productFits par (now words) (now x) (now work) ≡ true ⌝ }
-    ensures { λ r. ⌜ ProductOutcome true (projAll par dual (blocksOf (now (words .entry))) (now (x .entry)) (now (work .entry))) (now (x .entry)) (now (work .entry)) r (now (x .exit)) (now (work .exit)) ⌝ }
+    ensures { λ r. ⌜
+        ProductOutcome true
+        (projAll par dual (blocksOf (now (words .entry))) (now (x .entry)) (now (work .entry))) (now (x .entry))
+        (now (work .entry)) r (now (x .exit)) (now (work .exit))
+        ⌝ }
 {
     let mut start: usize = 0;
     let mut rotations: u64 = 0;
@@ -98,7 +102,11 @@ pub fn product_proj(
     x: &mut [f64],
     work: &mut [f64],
 ) -> Product
-    ensures { λ r. ⌜ ProductOutcome (productFits par (now (words .entry)) (now (x .entry)) (now (work .entry))) (projAll par dual (blocksOf (now (words .entry))) (now (x .entry)) (now (work .entry))) (now (x .entry)) (now (work .entry)) r (now (x .exit)) (now (work .exit)) ⌝ }
+    ensures { λ r. ⌜
+        ProductOutcome (productFits par (now (words .entry)) (now (x .entry)) (now (work .entry)))
+        (projAll par dual (blocksOf (now (words .entry))) (now (x .entry)) (now (work .entry))) (now (x .entry))
+        (now (work .entry)) r (now (x .exit)) (now (work .exit))
+        ⌝ }
 {
     if !product_fits(par, words, x.len(), work.len()) {
         return Product::No;

@@ -21,7 +21,11 @@ pub fn project(
     x: &mut [f64],
     cone_work: &mut [f64],
 ) -> Product
-    ensures { λ r. ⌜ ProductOutcome (projectFits par shape (now (words .entry)) (now (x .entry)) (now («cone_work» .entry))) (projectedIn par shape (now (words .entry)) (now (x .entry)) (now («cone_work» .entry))) (now (x .entry)) (now («cone_work» .entry)) r (now (x .exit)) (now («cone_work» .exit)) ⌝ }
+    ensures { λ r. ⌜
+        ProductOutcome (projectFits par shape (now (words .entry)) (now (x .entry)) (now («cone_work» .entry)))
+        (projectedIn par shape (now (words .entry)) (now (x .entry)) (now («cone_work» .entry)))
+        (now (x .entry)) (now («cone_work» .entry)) r (now (x .exit)) (now («cone_work» .exit))
+        ⌝ }
 {
     if !fits_x(shape, x) {
         return Product::No;
@@ -43,7 +47,11 @@ fn project_fitting(
     requires { ⌜ ConesReady par (shape .rows .0) (now words) (length (now «cone_work»)) ⌝ }
     requires { ⌜ shape .cols .0 ≤ limit ⌝ }
     requires { ⌜ LikeX shape (now x) ⌝ }
-    ensures { λ r. ⌜ ProductOutcome true (projectedIn par shape (now (words .entry)) (now (x .entry)) (now («cone_work» .entry))) (now (x .entry)) (now («cone_work» .entry)) r (now (x .exit)) (now («cone_work» .exit)) ⌝ }
+    ensures { λ r. ⌜
+        ProductOutcome true
+        (projectedIn par shape (now (words .entry)) (now (x .entry)) (now («cone_work» .entry)))
+        (now (x .entry)) (now («cone_work» .entry)) r (now (x .exit)) (now («cone_work» .exit))
+        ⌝ }
 {
     let m = shape.rows.0;
     let n = shape.cols.0;

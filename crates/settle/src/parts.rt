@@ -32,8 +32,18 @@ pub(crate) fn lay_out(
     tx: &[f64],
     work: &mut [f64],
 )
-    requires { ⌜ length (now x) + length (now y) + length (now «dp_tau») + length (now «dp_sigma») + length (now rx) + length (now tx) ≤ length (now work) ⌝ }
-    ensures { λ _. ⌜ now (work .exit) ≡ now (x .entry) ++ now (y .entry) ++ now («dp_tau» .entry) ++ now («dp_sigma» .entry) ++ now (rx .entry) ++ now (tx .entry) ++ drop (length (now (x .entry)) + length (now (y .entry)) + length (now («dp_tau» .entry)) + length (now («dp_sigma» .entry)) + length (now (rx .entry)) + length (now (tx .entry))) (now (work .entry)) ⌝ }
+    requires { ⌜
+        length (now x) + length (now y) + length (now «dp_tau») + length (now «dp_sigma») + length (now rx) +
+        length (now tx) ≤ length (now work)
+        ⌝ }
+    ensures { λ _. ⌜
+        now (work .exit)
+        ≡ now (x .entry) ++ now (y .entry) ++ now («dp_tau» .entry) ++ now («dp_sigma» .entry) ++ now
+        (rx .entry) ++ now (tx .entry) ++ drop
+        (length (now (x .entry)) + length (now (y .entry)) + length (now («dp_tau» .entry)) + length
+        (now («dp_sigma» .entry)) + length (now (rx .entry)) + length (now (tx .entry)))
+        (now (work .entry))
+        ⌝ }
 {
     let to_y = x.len();
     let to_tau = to_y + y.len();

@@ -29,7 +29,11 @@ pub fn settle(
     work: &mut [f64],
     cone_work: &mut [f64],
 ) -> bool
-    ensures { λ r. ⌜ SettleOutcome (rows .0) (cols .0) (now (x .entry)) (now (y .entry)) (now («dp_tau» .entry)) (now («dp_sigma» .entry)) (now (rx .entry)) (now (tx .entry)) (now (work .entry)) ending (now («cone_work» .entry)) r (now (x .exit)) (now (work .exit)) (now («cone_work» .exit)) ⌝ }
+    ensures { λ r. ⌜
+        SettleOutcome (rows .0) (cols .0) (now (x .entry)) (now (y .entry)) (now («dp_tau» .entry))
+        (now («dp_sigma» .entry)) (now (rx .entry)) (now (tx .entry)) (now (work .entry)) ending
+        (now («cone_work» .entry)) r (now (x .exit)) (now (work .exit)) (now («cone_work» .exit))
+        ⌝ }
 {
     let m = rows.0;
     let n = cols.0;
@@ -116,7 +120,11 @@ fn settle_in(
     cone_work: &mut [f64],
 )
     requires { ⌜ Fitting m n (now x) (now y) (now «dp_tau») (now «dp_sigma») (now rx) (now tx) (now work) ⌝ }
-    ensures { λ _. ⌜ Settled m n (now (x .entry)) (now (y .entry)) (now («dp_tau» .entry)) (now («dp_sigma» .entry)) (now (rx .entry)) (now (tx .entry)) (now (work .entry)) ending (now («cone_work» .entry)) (now (x .exit)) (now (work .exit)) (now («cone_work» .exit)) ⌝ }
+    ensures { λ _. ⌜
+        Settled m n (now (x .entry)) (now (y .entry)) (now («dp_tau» .entry)) (now («dp_sigma» .entry))
+        (now (rx .entry)) (now (tx .entry)) (now (work .entry)) ending (now («cone_work» .entry))
+        (now (x .exit)) (now (work .exit)) (now («cone_work» .exit))
+        ⌝ }
 {
     if verdict::is_cone_failure(ending) {
         clear_front(m, n, work);

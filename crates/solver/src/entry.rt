@@ -30,7 +30,12 @@ pub fn solve(
     work: &mut [f64],
     cone_work: &mut [f64],
 ) -> Answer
-    ensures { λ r. ⌜ SolveOutcome (problemOf (rows .0) (cols .0) storage (now (c .entry)) (now (a .entry)) (now (b .entry)) (now (words .entry)) par) (now (work .entry)) (now («cone_work» .entry)) r (now (work .exit)) (now («cone_work» .exit)) ⌝ }
+    ensures { λ r. ⌜
+        SolveOutcome
+        (problemOf (rows .0) (cols .0) storage (now (c .entry)) (now (a .entry)) (now (b .entry))
+        (now (words .entry)) par)
+        (now (work .entry)) (now («cone_work» .entry)) r (now (work .exit)) (now («cone_work» .exit))
+        ⌝ }
 {
     let found = checks::check(
         par,
@@ -82,7 +87,10 @@ fn accepted(
     cone_work: &mut [f64],
 ) -> Answer
     requires { ⌜ Taken (problemIn shape (now c) (now a) (now b) (now words) par) (now work) (now «cone_work») ⌝ }
-    ensures { λ r. ⌜ LeftAs (problemIn shape (now (c .entry)) (now (a .entry)) (now (b .entry)) (now (words .entry)) par) (now (work .entry)) (now («cone_work» .entry)) r (now (work .exit)) (now («cone_work» .exit)) ⌝ }
+    ensures { λ r. ⌜
+        LeftAs (problemIn shape (now (c .entry)) (now (a .entry)) (now (b .entry)) (now (words .entry)) par)
+        (now (work .entry)) (now («cone_work» .entry)) r (now (work .exit)) (now («cone_work» .exit))
+        ⌝ }
 {
     let m = shape.rows.0;
     let n = shape.cols.0;

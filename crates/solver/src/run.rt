@@ -30,9 +30,20 @@ pub(crate) fn iterate(
     tx: &mut [f64],
     cone_work: &mut [f64],
 ) -> Answer
-    requires { ⌜ StepReady par shape (now c) (now a) (now b) (now words) (stateOf (now x) (now y) (now «dp_tau») (now «dp_sigma») (now rx) (now tx) (now «cone_work»)) ⌝ }
+    requires { ⌜
+        StepReady par shape (now c) (now a) (now b) (now words)
+        (stateOf (now x) (now y) (now «dp_tau») (now «dp_sigma») (now rx) (now tx) (now «cone_work»))
+        ⌝ }
     requires { ⌜ par .«max_iter» ≤ mostSteps ⌝ }
-    ensures { λ r. ⌜ Iterated (problemIn shape (now (c .entry)) (now (a .entry)) (now (b .entry)) (now (words .entry)) par) norms (stateOf (now (x .entry)) (now (y .entry)) (now («dp_tau» .entry)) (now («dp_sigma» .entry)) (now (rx .entry)) (now (tx .entry)) (now («cone_work» .entry))) r (stateOf (now (x .exit)) (now (y .exit)) (now («dp_tau» .entry)) (now («dp_sigma» .entry)) (now (rx .exit)) (now (tx .exit)) (now («cone_work» .exit))) ⌝ }
+    ensures { λ r. ⌜
+        Iterated (problemIn shape (now (c .entry)) (now (a .entry)) (now (b .entry)) (now (words .entry)) par)
+        norms
+        (stateOf (now (x .entry)) (now (y .entry)) (now («dp_tau» .entry)) (now («dp_sigma» .entry))
+        (now (rx .entry)) (now (tx .entry)) (now («cone_work» .entry)))
+        r
+        (stateOf (now (x .exit)) (now (y .exit)) (now («dp_tau» .entry)) (now («dp_sigma» .entry))
+        (now (rx .exit)) (now (tx .exit)) (now («cone_work» .exit)))
+        ⌝ }
 {
     let mut k: u64 = 1;
     let mut q: u64 = 0;

@@ -27,7 +27,10 @@ pub(crate) fn run_in(
 ) -> Answer
     requires { ⌜ Lent (problemIn shape (now c) (now a) (now b) (now words) par) (now work) (now «cone_work») ⌝ }
     requires { ⌜ AtZero shape (now x) (now y) (now «dp_tau») (now «dp_sigma») (now rx) (now tx) ⌝ }
-    ensures { λ r. ⌜ RanIn (problemIn shape (now (c .entry)) (now (a .entry)) (now (b .entry)) (now (words .entry)) par) (now (work .entry)) r (now (work .exit)) (now («cone_work» .exit)) ⌝ }
+    ensures { λ r. ⌜
+        RanIn (problemIn shape (now (c .entry)) (now (a .entry)) (now (b .entry)) (now (words .entry)) par)
+        (now (work .entry)) r (now (work .exit)) (now («cone_work» .exit))
+        ⌝ }
 {
     settle::clear(cone_work);
     let norms = prepare_all(par, shape, c, a, b, words, x, y, dp_tau, dp_sigma);
@@ -80,7 +83,11 @@ fn prepare_all(
     dp_sigma: &mut [f64],
 ) -> Norms
     requires { ⌜ CanPrepare shape (now c) (now a) (now b) (now words) (now x) (now y) (now «dp_tau») (now «dp_sigma») ⌝ }
-    ensures { λ r. ⌜ PreparedAs (problemIn shape (now (c .entry)) (now (a .entry)) (now (b .entry)) (now (words .entry)) par) (now (x .entry)) (now (y .entry)) (now («dp_tau» .entry)) r (now (x .exit)) (now (y .exit)) (now («dp_tau» .exit)) (now («dp_sigma» .exit)) ⌝ }
+    ensures { λ r. ⌜
+        PreparedAs (problemIn shape (now (c .entry)) (now (a .entry)) (now (b .entry)) (now (words .entry)) par)
+        (now (x .entry)) (now (y .entry)) (now («dp_tau» .entry)) r (now (x .exit)) (now (y .exit))
+        (now («dp_tau» .exit)) (now («dp_sigma» .exit))
+        ⌝ }
 {
     let prepared = prepare::prepare(par, shape, c, a, b, words, x, y, dp_tau, dp_sigma);
     match prepared {

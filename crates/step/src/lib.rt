@@ -33,7 +33,15 @@ pub fn update_vecs(
     tx: &mut [f64],
     cone_work: &mut [f64],
 ) -> Product
-    ensures { λ r. ⌜ (let s = stateOf (now (x .entry)) (now (y .entry)) (now («dp_tau» .entry)) (now («dp_sigma» .entry)) (now (rx .entry)) (now (tx .entry)) (now («cone_work» .entry)) in StepOutcome (stepFits par shape (now (c .entry)) (now (a .entry)) (now (b .entry)) (now (words .entry)) s) (problemIn shape (now (c .entry)) (now (a .entry)) (now (b .entry)) (now (words .entry)) par) s r (stateOf (now (x .exit)) (now (y .exit)) (now («dp_tau» .entry)) (now («dp_sigma» .entry)) (now (rx .exit)) (now (tx .exit)) (now («cone_work» .exit)))) ⌝ }
+    ensures { λ r. ⌜
+        (let s = stateOf (now (x .entry)) (now (y .entry)) (now («dp_tau» .entry)) (now («dp_sigma» .entry))
+        (now (rx .entry)) (now (tx .entry)) (now («cone_work» .entry)) in
+        StepOutcome
+        (stepFits par shape (now (c .entry)) (now (a .entry)) (now (b .entry)) (now (words .entry)) s)
+        (problemIn shape (now (c .entry)) (now (a .entry)) (now (b .entry)) (now (words .entry)) par) s r
+        (stateOf (now (x .exit)) (now (y .exit)) (now («dp_tau» .entry)) (now («dp_sigma» .entry))
+        (now (rx .exit)) (now (tx .exit)) (now («cone_work» .exit))))
+        ⌝ }
 {
     if !vectors_fit(shape, x, y, dp_tau, dp_sigma, rx, tx) {
         return Product::No;
@@ -71,7 +79,11 @@ fn vectors_fit(
     rx: &[f64],
     tx: &[f64],
 ) -> bool
-    ensures { λ r. ⌜ r ≡ vectorsFit shape (now (x .entry)) (now (y .entry)) (now («dp_tau» .entry)) (now («dp_sigma» .entry)) (now (rx .entry)) (now (tx .entry)) ⌝ }
+    ensures { λ r. ⌜
+        r
+        ≡ vectorsFit shape (now (x .entry)) (now (y .entry)) (now («dp_tau» .entry)) (now («dp_sigma» .entry))
+        (now (rx .entry)) (now (tx .entry))
+        ⌝ }
 {
     if !fits_x(shape, x) {
         return false;
@@ -107,8 +119,19 @@ fn update_fitting(
     tx: &mut [f64],
     cone_work: &mut [f64],
 ) -> Product
-    requires { ⌜ StepReady par shape (now c) (now a) (now b) (now words) (stateOf (now x) (now y) (now «dp_tau») (now «dp_sigma») (now rx) (now tx) (now «cone_work»)) ⌝ }
-    ensures { λ r. ⌜ StepOutcome true (problemIn shape (now (c .entry)) (now (a .entry)) (now (b .entry)) (now (words .entry)) par) (stateOf (now (x .entry)) (now (y .entry)) (now («dp_tau» .entry)) (now («dp_sigma» .entry)) (now (rx .entry)) (now (tx .entry)) (now («cone_work» .entry))) r (stateOf (now (x .exit)) (now (y .exit)) (now («dp_tau» .entry)) (now («dp_sigma» .entry)) (now (rx .exit)) (now (tx .exit)) (now («cone_work» .exit))) ⌝ }
+    requires { ⌜
+        StepReady par shape (now c) (now a) (now b) (now words)
+        (stateOf (now x) (now y) (now «dp_tau») (now «dp_sigma») (now rx) (now tx) (now «cone_work»))
+        ⌝ }
+    ensures { λ r. ⌜
+        StepOutcome true
+        (problemIn shape (now (c .entry)) (now (a .entry)) (now (b .entry)) (now (words .entry)) par)
+        (stateOf (now (x .entry)) (now (y .entry)) (now («dp_tau» .entry)) (now («dp_sigma» .entry))
+        (now (rx .entry)) (now (tx .entry)) (now («cone_work» .entry)))
+        r
+        (stateOf (now (x .exit)) (now (y .exit)) (now («dp_tau» .entry)) (now («dp_sigma» .entry))
+        (now (rx .exit)) (now (tx .exit)) (now («cone_work» .exit)))
+        ⌝ }
 {
     move_x(shape, c, a, b, x, y, dp_tau, rx, tx);
     let p = project::project(par, shape, words, x, cone_work);
@@ -136,7 +159,11 @@ fn move_x(
     tx: &mut [f64],
 )
     requires { ⌜ CanMoveX shape (now c) (now a) (now b) (now x) (now y) (now «dp_tau») (now rx) (now tx) ⌝ }
-    ensures { λ _. ⌜ XMoved (embedIn shape (now (c .entry)) (now (a .entry)) (now (b .entry))) (now (x .entry)) (now (y .entry)) (now («dp_tau» .entry)) (now (tx .entry)) (now (x .exit)) (now (rx .exit)) (now (tx .exit)) ⌝ }
+    ensures { λ _. ⌜
+        XMoved (embedIn shape (now (c .entry)) (now (a .entry)) (now (b .entry))) (now (x .entry))
+        (now (y .entry)) (now («dp_tau» .entry)) (now (tx .entry)) (now (x .exit)) (now (rx .exit))
+        (now (tx .exit))
+        ⌝ }
 {
     linalg::copy(x, rx);
     embed_trans::trans_op(shape, c, a, b, -1.0, y, 0.0, tx);
@@ -169,7 +196,11 @@ fn move_y(
     tx: &mut [f64],
 )
     requires { ⌜ CanMoveY shape (now c) (now a) (now b) (now x) (now y) (now «dp_sigma») (now rx) (now tx) ⌝ }
-    ensures { λ _. ⌜ YMoved (embedIn shape (now (c .entry)) (now (a .entry)) (now (b .entry))) (now (x .entry)) (now (y .entry)) (now («dp_sigma» .entry)) (now (rx .entry)) (now (tx .entry)) (now (y .exit)) (now (rx .exit)) (now (tx .exit)) ⌝ }
+    ensures { λ _. ⌜
+        YMoved (embedIn shape (now (c .entry)) (now (a .entry)) (now (b .entry))) (now (x .entry))
+        (now (y .entry)) (now («dp_sigma» .entry)) (now (rx .entry)) (now (tx .entry)) (now (y .exit))
+        (now (rx .exit)) (now (tx .exit))
+        ⌝ }
 {
     let m = shape.rows.0;
     let n = shape.cols.0;

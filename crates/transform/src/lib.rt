@@ -70,7 +70,11 @@ fn transform(
     beta: f64,
     y: &mut [f64],
 ) -> bool
-    ensures { λ r. ⌜ Outcome (transformFits transpose t (now (mat .entry)) (now (x .entry)) (now (y .entry))) (transformed alpha (entries transpose t (now (mat .entry))) (now (x .entry)) beta (now (y .entry))) (now (y .entry)) r (now (y .exit)) ⌝ }
+    ensures { λ r. ⌜
+        Outcome (transformFits transpose t (now (mat .entry)) (now (x .entry)) (now (y .entry)))
+        (transformed alpha (entries transpose t (now (mat .entry))) (now (x .entry)) beta (now (y .entry)))
+        (now (y .entry)) r (now (y .exit))
+        ⌝ }
 {
     if !matrix::transform_fits(transpose, t, mat, x, y) {
         return false;
@@ -92,7 +96,13 @@ pub fn transform_ge(
     beta: f64,
     y: &mut [f64],
 ) -> bool
-    ensures { λ r. ⌜ Outcome (transformFits transpose (General rows cols) (now (mat .entry)) (now (x .entry)) (now (y .entry))) (transformed alpha (entries transpose (General rows cols) (now (mat .entry))) (now (x .entry)) beta (now (y .entry))) (now (y .entry)) r (now (y .exit)) ⌝ }
+    ensures { λ r. ⌜
+        Outcome
+        (transformFits transpose (General rows cols) (now (mat .entry)) (now (x .entry)) (now (y .entry)))
+        (transformed alpha (entries transpose (General rows cols) (now (mat .entry))) (now (x .entry)) beta
+        (now (y .entry)))
+        (now (y .entry)) r (now (y .exit))
+        ⌝ }
 {
     let t = MatType::General(rows, cols);
     transform(transpose, t, alpha, mat, x, beta, y)
@@ -100,7 +110,11 @@ pub fn transform_ge(
 
 // The product with a symmetric matrix, packed.
 pub fn transform_sp(n: Rows, alpha: f64, mat: &[f64], x: &[f64], beta: f64, y: &mut [f64]) -> bool
-    ensures { λ r. ⌜ Outcome (transformFits false (SymPack n) (now (mat .entry)) (now (x .entry)) (now (y .entry))) (transformed alpha (entry (SymPack n) (now (mat .entry))) (now (x .entry)) beta (now (y .entry))) (now (y .entry)) r (now (y .exit)) ⌝ }
+    ensures { λ r. ⌜
+        Outcome (transformFits false (SymPack n) (now (mat .entry)) (now (x .entry)) (now (y .entry)))
+        (transformed alpha (entry (SymPack n) (now (mat .entry))) (now (x .entry)) beta (now (y .entry)))
+        (now (y .entry)) r (now (y .exit))
+        ⌝ }
 {
     let t = MatType::SymPack(n);
     transform(false, t, alpha, mat, x, beta, y)

@@ -42,7 +42,16 @@ pub fn whole_step(
     tx: &mut [f64],
     cone_work: &mut [f64],
 ) -> StepAnswer
-    ensures { λ r. ⌜ (let s = stateOf (now (x .entry)) (now (y .entry)) (now («dp_tau» .entry)) (now («dp_sigma» .entry)) (now (rx .entry)) (now (tx .entry)) (now («cone_work» .entry)) in WholeStepOutcome (stepFits par shape (now (c .entry)) (now (a .entry)) (now (b .entry)) (now (words .entry)) s) (problemIn shape (now (c .entry)) (now (a .entry)) (now (b .entry)) (now (words .entry)) par) norms k s r (stateOf (now (x .exit)) (now (y .exit)) (now («dp_tau» .entry)) (now («dp_sigma» .entry)) (now (rx .exit)) (now (tx .exit)) (now («cone_work» .exit)))) ⌝ }
+    ensures { λ r. ⌜
+        (let s = stateOf (now (x .entry)) (now (y .entry)) (now («dp_tau» .entry)) (now («dp_sigma» .entry))
+        (now (rx .entry)) (now (tx .entry)) (now («cone_work» .entry)) in
+        WholeStepOutcome
+        (stepFits par shape (now (c .entry)) (now (a .entry)) (now (b .entry)) (now (words .entry)) s)
+        (problemIn shape (now (c .entry)) (now (a .entry)) (now (b .entry)) (now (words .entry)) par) norms k s
+        r
+        (stateOf (now (x .exit)) (now (y .exit)) (now («dp_tau» .entry)) (now («dp_sigma» .entry))
+        (now (rx .exit)) (now (tx .exit)) (now («cone_work» .exit))))
+        ⌝ }
 {
     let p = update_vecs(
         par,
@@ -84,8 +93,17 @@ fn judge(
     requires { ⌜ Fits shape (now c) (now a) (now b) ⌝ }
     requires { ⌜ LikeX shape (now x) ⌝ }
     requires { ⌜ LikeX shape (now rx) ⌝ }
-    ensures says { λ r. ⌜ r ≡ rules.verdict par k none (judged (embedIn shape (now (c .entry)) (now (a .entry)) (now (b .entry))) (par .«eps_zero») norms (now (x .entry)) (now (rx .entry)) .criteria) ⌝ }
-    ensures rx_left { λ r. ⌜ now (rx .exit) ≡ judged (embedIn shape (now (c .entry)) (now (a .entry)) (now (b .entry))) (par .«eps_zero») norms (now (x .entry)) (now (rx .entry)) .rx ⌝ }
+    ensures says { λ r. ⌜
+        r
+        ≡ rules.verdict par k none
+        (judged (embedIn shape (now (c .entry)) (now (a .entry)) (now (b .entry))) (par .«eps_zero») norms
+        (now (x .entry)) (now (rx .entry)) .criteria)
+        ⌝ }
+    ensures rx_left { λ r. ⌜
+        now (rx .exit)
+        ≡ judged (embedIn shape (now (c .entry)) (now (a .entry)) (now (b .entry))) (par .«eps_zero») norms
+        (now (x .entry)) (now (rx .entry)) .rx
+        ⌝ }
 {
     let j = criteria::judge(par, shape, c, a, b, norms, x, rx);
     match j {

@@ -46,11 +46,11 @@ value-below v (x ∷ bits) b =
     let x-below : x < 2 = b 0 in
     let more : (2 * v + x + 1) * 2 ^ length bits ≤ ((v + 1) * 2) * 2 ^ length bits = mul-le-mul-right (2 ^ length bits) (omega arith) in
     let rest : valueFrom (2 * v + x) bits < (2 * v + x + 1) * 2 ^ length bits = value-below (2 * v + x) bits (λ i. b (suc i)) in
-    let whole : ((v + 1) * 2) * 2 ^ length bits ≡ (v + 1) * 2 ^ suc (length bits) = rw (pow-suc 2 (length bits)) (turned (v + 1) (2 ^ length bits)) in
+    let whole : ((v + 1) * 2) * 2 ^ length bits ≡ (v + 1) * 2 ^ suc (length bits) = rw (pow-suc 2 (length bits)) (regrouped (v + 1) (2 ^ length bits)) in
     rw whole at (below rest more)
   where
-    turned : (a p : ℕ) → a * 2 * p ≡ a * (p * 2)
-    turned a p = rw (mul-assoc a 2 p) (ap (λ (q : ℕ). a * q) (omega arith))
+    regrouped : (a p : ℕ) → a * 2 * p ≡ a * (p * 2)
+    regrouped a p = rw (mul-assoc a 2 p) (ap (λ (q : ℕ). a * q) (omega arith))
 
     below : {a b c : ℕ} → a < b → b ≤ c → a < c
     below p q = omega arith

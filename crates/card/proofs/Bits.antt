@@ -1,11 +1,11 @@
 -- Laws of bits: how many there are, which one stands at a place, what a field is bit by bit.
-use Prim.Native.Nat.{ℕ, zero, suc, _+_, _-_, _*_, _/_, _%_, _^_, _<_}
-use native.Mathlib.Nat.{mul-zero, mul-suc, pow-suc, pow-le-pow-right}
+use Prim.Native.Nat.{ℕ, zero, suc, _+_, _-_, _*_, _/_, _%_, _^_, _≤_, _<_}
+use native.Mathlib.Nat.{mul-zero, mul-suc, pow-suc, pow-le-pow-right, div-eq-of-lt}
 use native.Mathlib.Numerals.{add-one}
 use native.Mathlib.Omega.{arith}
 use mathlib.Core.Path.{_≡_, refl, sym, ap, _∙_}
 use mathlib.Core.List.{List, [], _∷_, _++_}
-use lib.ListN.{length, take, drop, getD, set, length-append, length-drop, List·getD-append}
+use lib.ListN.{length, take, drop, getD, set, length-append, length-drop, List·getD-append, List·getD-eq-default}
 use lib.Seq.{take-suc, drop-cons, getD-drop, getD-append-add, append-snoc, set-at}
 use Rattle.card.specs.Card.{bitsOf, bitsOfBytes, bitsOfAll, valueFrom}
 use Rattle.card.specs.Fields.{fieldAt, fieldsAt}
@@ -38,6 +38,16 @@ bit-of (suc w) v zero h =
 bit-of (suc w) v (suc k) h =
     let e : suc w - 1 - suc k ≡ w - 1 - k = omega arith in
     rw e (bit-of w v k (omega arith))
+
+-- a number below 2 ^ 64 has no bit above its 64th, and no number one past its width
+pub bit-of-high : (w v k : ℕ) → k < w → v < 2 ^ 64 → 64 ≤ w - 1 - k → getD (bitsOf w v) k 0 ≡ 0
+bit-of-high w v k h below high =
+    let most : 2 ^ 64 ≤ 2 ^ (w - 1 - k) = pow-le-pow-right {n = 2} (omega arith) {i = 64} {j = w - 1 - k} high in
+    let none : v / 2 ^ (w - 1 - k) ≡ 0 = div-eq-of-lt (omega arith) in
+    rw (bit-of w v k h, none)
+
+pub bit-of-past : (w v k : ℕ) → w ≤ k → getD (bitsOf w v) k 0 ≡ 0
+bit-of-past w v k h = List·getD-eq-default (bitsOf w v) 0 {n = k} (rw (bitsOf-length w v) h)
 
 pub all-bit : (w : ℕ) (vs : List ℕ) (i p : ℕ) → i < length vs → p < w → getD (bitsOfAll w vs) (w * i + p) 0 ≡ getD vs i 0 / 2 ^ (w - 1 - p) % 2
 unfolding bitsOfAll

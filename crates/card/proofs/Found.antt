@@ -1,12 +1,14 @@
 -- What is known of a card that is read: every test was met, and the card is what stands at the places of its fields.
 use Prim.Native.Nat.{ℕ, _+_, _*_, _%_, _≤_}
 use native.Mathlib.Omega.{arith}
-use mathlib.Core.Path.{_≡_, refl, _∙_}
+use mathlib.Core.Path.{_≡_, refl, ap, _∙_}
 use mathlib.Core.Bool.{Bool, true, false, cond}
 use mathlib.Core.List.{List, _++_}
 use lib.Dec.{leb, eqb}
 use lib.ListN.{length, take, drop}
 use borrow.Author.Tests.{leb-true, eqb-true}
+use Rattle.rules.specs.declared.Rows.{Rows}
+use Rattle.rules.specs.declared.Cols.{Cols}
 use Rattle.card.specs.Card.{bitsOfBytes, allZero, Card, Reading, fault, read, numberCount, closed, readCard}
 use Rattle.card.specs.Fields.{fieldAt, fieldsAt, bitCount, cardAt, restAt}
 use Rattle.card.specs.Outcome.{answerOf, wordsAfter, numbersAfter}
@@ -16,9 +18,9 @@ use Rattle.card.proofs.Binary.{bytes-binary, field-below}
 use Rattle.card.proofs.Places.{card-by-places}
 use Rattle.card.proofs.Rest.{answer-is}
 
-module _ (packed : Bool) (n m count maxIter sweepLimit : ℕ) where
+module _ (packed : Bool) (rows : Rows) (cols : Cols) (count maxIter sweepLimit : ℕ) where
   abbrev pub IsRead : Reading → Type 0
-  IsRead r = answerOf r ≡ Read packed n m count maxIter sweepLimit
+  IsRead r = answerOf r ≡ Read packed rows cols count maxIter sweepLimit
 
   -- a judgement that did not end the reading was met
   pub record Met (test : Bool) (next : Reading) (number : ℕ) : Type 0 where
@@ -49,14 +51,14 @@ closed-opened : (k : Card) (bits : List ℕ) → closed k bits ≡ cond (allZero
 unfolding closed
 closed-opened k bits = refl
 
-module _ (bytes : List ℕ) (packed : Bool) (n m count maxIter sweepLimit : ℕ) (e : answerOf (readCard bytes) ≡ Read packed n m count maxIter sweepLimit) where
+module _ (bytes : List ℕ) (packed : Bool) (rows : Rows) (cols : Cols) (count maxIter sweepLimit : ℕ) (e : answerOf (readCard bytes) ≡ Read packed rows cols count maxIter sweepLimit) where
   pub found-at : Found bytes (fieldAt 5 6 (bitsOfBytes bytes)) (fieldAt 11 6 (bitsOfBytes bytes))
   found-at =
       let bits = bitsOfBytes bytes in
       let n' = fieldAt 5 6 bits in
       let m' = fieldAt 11 6 bits in
       let total = bitCount n' m' bits in
-      let all-met = met packed n m count maxIter sweepLimit in
+      let all-met = met packed rows cols count maxIter sweepLimit in
       let s1 = all-met (leb 4 (length bits)) _ 1 (rw (card-by-places bytes) at e) in
       let s2 = all-met (eqb (fieldAt 0 4 bits) 1) _ 2 (s1 .goes-on) in
       let s3 = all-met (leb 11 (length bits)) _ 1 (s2 .goes-on) in
@@ -78,31 +80,37 @@ module _ (bytes : List ℕ) (packed : Bool) (n m count maxIter sweepLimit : ℕ)
         is = card-by-places bytes ∙ s1 .same ∙ s2 .same ∙ s3 .same ∙ s4 .same ∙ s5 .same ∙ s6 .same ∙ rest-opened n' m' bits ∙ s7 .same ∙ closed-opened (cardAt n' m' bits) (drop total bits) ∙ s8 .same ∙ s9 .same;
       }
 
-  said : Read (eqb (fieldAt 4 1 (bitsOfBytes bytes)) 1) (fieldAt 5 6 (bitsOfBytes bytes)) (fieldAt 11 6 (bitsOfBytes bytes)) (fieldAt 17 6 (bitsOfBytes bytes)) (fieldAt (23 + 16 * fieldAt 17 6 (bitsOfBytes bytes)) 20 (bitsOfBytes bytes)) (fieldAt (23 + 16 * fieldAt 17 6 (bitsOfBytes bytes) + 20) 7 (bitsOfBytes bytes)) ≡ Read packed n m count maxIter sweepLimit
+  said : Read (eqb (fieldAt 4 1 (bitsOfBytes bytes)) 1) (record { 0 = fieldAt 11 6 (bitsOfBytes bytes) }) (record { 0 = fieldAt 5 6 (bitsOfBytes bytes) }) (fieldAt 17 6 (bitsOfBytes bytes)) (fieldAt (23 + 16 * fieldAt 17 6 (bitsOfBytes bytes)) 20 (bitsOfBytes bytes)) (fieldAt (23 + 16 * fieldAt 17 6 (bitsOfBytes bytes) + 20) 7 (bitsOfBytes bytes)) ≡ Read packed rows cols count maxIter sweepLimit
   said = answer-is _ _ (bitsOfBytes bytes) _ _ _ _ refl refl refl refl ∙ (rw (found-at .is) at e)
 
   pub flag-is : eqb (fieldAt 4 1 (bitsOfBytes bytes)) 1 ≡ packed
   flag-is = let s = said in cc
 
-  pub n-is : fieldAt 5 6 (bitsOfBytes bytes) ≡ n
-  n-is = let s = said in cc
+  pub n-is : fieldAt 5 6 (bitsOfBytes bytes) ≡ cols .0
+  n-is =
+      let s = said in
+      let same : _≡_ {A = Cols} (record { 0 = fieldAt 5 6 (bitsOfBytes bytes) }) cols = cc in
+      ap (λ (c : Cols). c .0) same
 
-  pub m-is : fieldAt 11 6 (bitsOfBytes bytes) ≡ m
-  m-is = let s = said in cc
+  pub m-is : fieldAt 11 6 (bitsOfBytes bytes) ≡ rows .0
+  m-is =
+      let s = said in
+      let same : _≡_ {A = Rows} (record { 0 = fieldAt 11 6 (bitsOfBytes bytes) }) rows = cc in
+      ap (λ (r : Rows). r .0) same
 
   pub count-is : fieldAt 17 6 (bitsOfBytes bytes) ≡ count
   count-is = let s = said in cc
 
-  pub n-most : n ≤ 32
+  pub n-most : cols .0 ≤ 32
   n-most = omega (arith, n-is, found-at .n-most)
 
-  pub m-most : m ≤ 32
+  pub m-most : rows .0 ≤ 32
   m-most = omega (arith, m-is, found-at .m-most)
 
   pub count-most : count ≤ 63
   count-most = omega (arith, count-is, field-below 17 6 (bitsOfBytes bytes) (bytes-binary bytes))
 
-  pub all-inside : 23 + 16 * count + 20 + 7 + 64 * numberCount packed n m ≤ 8 * length bytes
+  pub all-inside : 23 + 16 * count + 20 + 7 + 64 * numberCount packed (cols .0) (rows .0) ≤ 8 * length bytes
   unfolding bitCount
   all-inside = rw (← count-is, ← flag-is, ← n-is, ← m-is, ← bits-length bytes) (found-at .inside)
 
@@ -111,7 +119,7 @@ module _ (bytes : List ℕ) (packed : Bool) (n m count maxIter sweepLimit : ℕ)
   words-are words = rw (found-at .is, fields-length (fieldAt 17 6 (bitsOfBytes bytes)) 23 16 (bitsOfBytes bytes), count-is)
 
   pub numbers-are : (numbers : List ℕ)
-      → numbersAfter (readCard bytes) numbers ≡ fieldsAt (numberCount packed n m) (23 + 16 * count + 20 + 7) 64 (bitsOfBytes bytes) ++ drop (numberCount packed n m) numbers
+      → numbersAfter (readCard bytes) numbers ≡ fieldsAt (numberCount packed (cols .0) (rows .0)) (23 + 16 * count + 20 + 7) 64 (bitsOfBytes bytes) ++ drop (numberCount packed (cols .0) (rows .0)) numbers
   unfolding cardAt
   numbers-are numbers =
-      rw (found-at .is, flag-is, n-is, m-is, count-is, fields-length (numberCount packed n m) (23 + 16 * count + 20 + 7) 64 (bitsOfBytes bytes))
+      rw (found-at .is, flag-is, n-is, m-is, count-is, fields-length (numberCount packed (cols .0) (rows .0)) (23 + 16 * count + 20 + 7) 64 (bitsOfBytes bytes))

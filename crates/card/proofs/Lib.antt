@@ -6,11 +6,3 @@ pub mod Rest
 pub mod Front
 pub mod Found
 pub mod Outcome
-pub mod Fronts
-pub mod Bytes
-pub mod Writing
-pub mod Values
-pub mod Back
-pub mod Forth
-pub mod Longer
-pub mod RoundTrip

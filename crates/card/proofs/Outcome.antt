@@ -1,4 +1,4 @@
--- How the reader shows its outcome.
+-- How the reader shows its outcome, and that it is one thing.
 use Prim.Native.Nat.{ℕ, _+_, _*_, _≤_, _<_}
 use native.Mathlib.Omega.{arith}
 use mathlib.Core.Path.{_≡_, refl, sym, _∙_}
@@ -6,9 +6,12 @@ use mathlib.Core.Bool.{Bool, true, false}
 use mathlib.Core.List.{List, _++_}
 use lib.ListN.{length, drop}
 use borrow.Author.Tests.{le-leb, lt-leb}
+use Rattle.rules.specs.declared.Rows.{Rows}
+use Rattle.rules.specs.declared.Cols.{Cols}
 use Rattle.card.specs.Card.{bitsOfBytes, Reading, fault, read, numberCount, readCard}
 use Rattle.card.specs.Fields.{fieldsAt}
 use Rattle.card.specs.Outcome.{holdsAny, answerOf, wordsAfter, numbersAfter, ReadOutcome}
+use Rattle.card.specs.declared.CardRead.{CardRead}
 use Rattle.card.specs.declared.CardRead.the-variants.{No, Fault, Read}
 use Rattle.card.proofs.Found.{words-are, numbers-are}
 
@@ -51,13 +54,19 @@ module _ (bytes words numbers : List ℕ) where
         let kept = a-fault (readCard bytes) f words numbers e in
         record { answered = rw (enough g h) (sym e); words-left = rw (enough g h) (sym (kept .0)); numbers-left = rw (enough g h) (sym (kept .1)) }
 
-    pub read-done : (packed : Bool) (n m count maxIter sweepLimit : ℕ) (wordsLeft numbersLeft : List ℕ) → answerOf (readCard bytes) ≡ Read packed n m count maxIter sweepLimit
+    pub read-done : (packed : Bool) (rows : Rows) (cols : Cols) (count maxIter sweepLimit : ℕ) (wordsLeft numbersLeft : List ℕ) → answerOf (readCard bytes) ≡ Read packed rows cols count maxIter sweepLimit
         → wordsLeft ≡ fieldsAt count 23 16 (bitsOfBytes bytes) ++ drop count words
-        → numbersLeft ≡ fieldsAt (numberCount packed n m) (23 + 16 * count + 20 + 7) 64 (bitsOfBytes bytes) ++ drop (numberCount packed n m) numbers
-        → ReadOutcome bytes words numbers (Read packed n m count maxIter sweepLimit) wordsLeft numbersLeft
-    read-done packed n m count maxIter sweepLimit wordsLeft numbersLeft e w k =
+        → numbersLeft ≡ fieldsAt (numberCount packed (cols .0) (rows .0)) (23 + 16 * count + 20 + 7) 64 (bitsOfBytes bytes) ++ drop (numberCount packed (cols .0) (rows .0)) numbers
+        → ReadOutcome bytes words numbers (Read packed rows cols count maxIter sweepLimit) wordsLeft numbersLeft
+    read-done packed rows cols count maxIter sweepLimit wordsLeft numbersLeft e w k =
         record {
           answered = rw (enough g h) (sym e);
-          words-left = rw (enough g h) (w ∙ sym (words-are bytes packed n m count maxIter sweepLimit e words));
-          numbers-left = rw (enough g h) (k ∙ sym (numbers-are bytes packed n m count maxIter sweepLimit e numbers));
+          words-left = rw (enough g h) (w ∙ sym (words-are bytes packed rows cols count maxIter sweepLimit e words));
+          numbers-left = rw (enough g h) (k ∙ sym (numbers-are bytes packed rows cols count maxIter sweepLimit e numbers));
         }
+
+-- ---- any two outcomes that the contract allows coincide
+
+pub any-two-readings-coincide : {bytes words numbers : List ℕ} {a b : CardRead} {v w x y : List ℕ}
+    → ReadOutcome bytes words numbers a v x → ReadOutcome bytes words numbers b w y → (a ≡ b) × (v ≡ w) × (x ≡ y)
+any-two-readings-coincide p q = (p .answered ∙ sym (q .answered), p .words-left ∙ sym (q .words-left), p .numbers-left ∙ sym (q .numbers-left))

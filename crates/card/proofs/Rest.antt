@@ -77,6 +77,6 @@ unfolding bitCount
 total-is n m bits flag count numbers f c k = rw (k, f, c)
 
 pub answer-is : (n m : ℕ) (bits : List ℕ) (flag count maxIter sweepLimit : ℕ) → flag ≡ fieldAt 4 1 bits → count ≡ fieldAt 17 6 bits → maxIter ≡ fieldAt (23 + 16 * count) 20 bits → sweepLimit ≡ fieldAt (23 + 16 * count + 20) 7 bits
-    → Read (eqb flag 1) n m count maxIter sweepLimit ≡ answerOf (read (cardAt n m bits))
+    → Read (eqb flag 1) (record { 0 = m }) (record { 0 = n }) count maxIter sweepLimit ≡ answerOf (read (cardAt n m bits))
 unfolding cardAt
 answer-is n m bits flag count maxIter sweepLimit f c i s = rw (i, s, c, f, fields-length (fieldAt 17 6 bits) 23 16 bits)

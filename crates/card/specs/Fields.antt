@@ -1,9 +1,9 @@
 -- A card's fields by their places: what the reader's own functions are held to.
 use Prim.Native.Nat.{ℕ, zero, suc, _+_, _*_}
 use mathlib.Core.Bool.{cond}
-use mathlib.Core.List.{List, [], _∷_, _++_}
+use mathlib.Core.List.{List, [], _∷_}
 use lib.Dec.{leb, eqb}
-use lib.ListN.{length, take, drop, replicate}
+use lib.ListN.{length, take, drop}
 use Rattle.card.specs.Card.{valueFrom, value, Card, Reading, fault, closed, numberCount}
 
 -- the number that the w bits from a place on say
@@ -34,10 +34,3 @@ cardAt n m bits =
 unfoldable pub restAt : ℕ → ℕ → List ℕ → Reading
 unfolding bitCount cardAt closed
 restAt n m bits = cond (leb (bitCount n m bits) (length bits)) (closed (cardAt n m bits) (drop (bitCount n m bits) bits)) (fault 1)
-
--- ---- the writer's
-
--- the byte that the eight bits from place 8 * i on say, zero bits after the last
-unfoldable pub byteAt : List ℕ → ℕ → ℕ
-unfolding fieldAt
-byteAt bits i = fieldAt 0 8 (drop (8 * i) bits ++ replicate 8 0)

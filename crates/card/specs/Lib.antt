@@ -1,4 +1,3 @@
 pub mod Card
 pub mod Fields
 pub mod Outcome
-pub mod RoundTrip

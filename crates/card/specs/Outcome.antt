@@ -1,15 +1,22 @@
--- The complete outcomes of the reader and of the writer.
+-- The complete outcome of the reader, and how many numbers A has.
 use Prim.Native.Nat.{ℕ}
 use mathlib.Core.Path.{_≡_}
 use mathlib.Core.Bool.{Bool, cond, _&&_}
 use mathlib.Core.List.{List, _++_}
-use lib.Dec.{leb, ltb, eqb}
+use lib.Dec.{leb}
 use lib.ListN.{length, drop}
-use Rattle.card.specs.Card.{Card, Reading, fault, read, readCard, numberCount, bytesFor, cardBits, writtenCard}
+use Rattle.rules.specs.declared.Rows.{Rows}
+use Rattle.rules.specs.declared.Cols.{Cols}
+use Rattle.card.specs.Card.{Card, Reading, fault, read, readCard, numbersOfA}
 use Rattle.card.specs.declared.CardRead.{CardRead}
 use Rattle.card.specs.declared.CardRead.the-variants.{No, Fault, Read}
-use Rattle.card.specs.declared.Written.{Written}
-use Rattle.card.specs.declared.Written.the-variants.{No as NotWritten, Bytes}
+
+-- m is the number of rows, n of columns
+abbrev pub rowsOf : Card → Rows
+rowsOf k = record { 0 = k .m }
+
+abbrev pub colsOf : Card → Cols
+colsOf k = record { 0 = k .n }
 
 -- whether two buffers hold the lists of any card: 63 words, and 3 + 32 + 32 * 32 + 32 numbers
 abbrev pub holdsAny : List ℕ → List ℕ → Bool
@@ -18,7 +25,7 @@ holdsAny words numbers = leb 63 (length words) && leb 1091 (length numbers)
 -- the reader's answer, and what it leaves in its buffers, where they hold any card
 abbrev pub answerOf : Reading → CardRead
 answerOf (fault f) = Fault f
-answerOf (read k) = Read (k .packed) (k .n) (k .m) (length (k .words)) (k .maxIter) (k .sweepLimit)
+answerOf (read k) = Read (k .packed) (rowsOf k) (colsOf k) (length (k .words)) (k .maxIter) (k .sweepLimit)
 
 abbrev pub wordsAfter : Reading → List ℕ → List ℕ
 wordsAfter (fault f) words = words
@@ -33,17 +40,6 @@ pub record ReadOutcome (bytes words numbers : List ℕ) (answer : CardRead) (wor
   pub words-left : wordsLeft ≡ cond (holdsAny words numbers) (wordsAfter (readCard bytes) words) words
   pub numbers-left : numbersLeft ≡ cond (holdsAny words numbers) (numbersAfter (readCard bytes) numbers) numbers
 
--- ---- the writer
-
-abbrev pub cardOf : Bool → ℕ → ℕ → List ℕ → ℕ → ℕ → List ℕ → Card
-cardOf packed n m words maxIter sweepLimit numbers =
-    record { packed = packed; n = n; m = m; words = words; maxIter = maxIter; sweepLimit = sweepLimit; numbers = numbers }
-
--- whether each field holds what it is to say, there are as many numbers as n and m ask, and so many bytes are enough
-abbrev pub isWritten : Card → ℕ → Bool
-isWritten k space =
-    leb (k .n) 32 && leb (k .m) 32 && leb (length (k .words)) 63 && ltb (k .maxIter) 1048576 && ltb (k .sweepLimit) 128 && eqb (length (k .numbers)) (numberCount (k .packed) (k .n) (k .m)) && leb (bytesFor (length (cardBits k))) space
-
-pub record WriteOutcome (k : Card) (bytes : List ℕ) (answer : Written) (bytesLeft : List ℕ) : Type 0 where
-  pub answered : answer ≡ cond (isWritten k (length bytes)) (Bytes (length (writtenCard k))) NotWritten
-  pub bytes-left : bytesLeft ≡ cond (isWritten k (length bytes)) (writtenCard k ++ drop (length (writtenCard k)) bytes) bytes
+-- how many numbers A has; none where n or m is above 32, as in no card
+unfoldable pub storedOf : Bool → Rows → Cols → ℕ
+storedOf packed rows cols = cond (leb (cols .0) 32 && leb (rows .0) 32) (numbersOfA packed (cols .0) (rows .0)) 0

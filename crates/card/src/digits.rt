@@ -1,9 +1,12 @@
 // Bits: those of bytes, those of a field, and how many numbers a card has.
+use rules::Cols;
+use rules::Rows;
 ghost use Prim.Native.Nat.{_+_, _*_, _^_, _<_, _≤_};
 ghost use mathlib.Core.Path.{_≡_};
 ghost use lib.ListN.{length, getD};
 ghost use Rattle.card.specs.Card.{bitsOf, bitsOfBytes, numberCount};
 ghost use Rattle.card.specs.Fields.{fieldAt};
+ghost use Rattle.card.specs.Outcome.{storedOf};
 
 // Two to a power.
 fn power(exponent: usize) -> u64
@@ -45,25 +48,45 @@ pub(crate) fn field(bytes: &[u8], at: usize, width: usize) -> u64
     v
 }
 
-// The bit at a place of a field of some width.
-pub(crate) fn bit_of(v: u64, width: usize, k: usize) -> u64
-    requires { ⌜ k < width ⌝ }
-    requires { ⌜ width ≤ 64 ⌝ }
+// The bit at a place of a number that is written in so many bits, 0 past its end.
+pub fn bit_of(v: u64, width: usize, k: usize) -> u64
     ensures value { λ r. ⌜ r ≡ getD (bitsOf width v) k 0 ⌝ }
     ensures bound { λ r. ⌜ r < 2 ⌝ }
 {
-    v / power(width - 1 - k) % 2
+    if k < width {
+        let exponent = width - 1 - k;
+        if exponent < 64 {
+            return v / power(exponent) % 2;
+        }
+    }
+    0
+}
+
+// How many numbers A has; none where n or m is above 32, as in no card.
+pub fn stored(packed: bool, rows: Rows, cols: Cols) -> usize
+    ensures value { λ r. ⌜ r ≡ storedOf packed rows cols ⌝ }
+    ensures bound { λ r. ⌜ r ≤ 1024 ⌝ }
+{
+    let m = rows.0;
+    let n = cols.0;
+    if n > 32 {
+        return 0;
+    }
+    if m > 32 {
+        return 0;
+    }
+    if packed {
+        return n * (n + 1) / 2;
+    }
+    m * n
 }
 
 // How many numbers a card has.
-pub(crate) fn number_count(packed: bool, n: usize, m: usize) -> usize
-    requires { ⌜ n ≤ 32 ⌝ }
-    requires { ⌜ m ≤ 32 ⌝ }
-    ensures value { λ r. ⌜ r ≡ numberCount packed n m ⌝ }
+pub(crate) fn number_count(packed: bool, rows: Rows, cols: Cols) -> usize
+    requires { ⌜ rows .0 ≤ 32 ⌝ }
+    requires { ⌜ cols .0 ≤ 32 ⌝ }
+    ensures value { λ r. ⌜ r ≡ numberCount packed (cols .0) (rows .0) ⌝ }
     ensures bound { λ r. ⌜ r ≤ 1091 ⌝ }
 {
-    if packed {
-        return 3 + n + n * (n + 1) / 2 + m;
-    }
-    3 + n + m * n + m
+    3 + cols.0 + stored(packed, rows, cols) + rows.0
 }

@@ -1,23 +1,16 @@
-// A problem as a card file: bits, the most significant first, read into words and numbers and written back.
+// A problem as a card file: bits, the most significant first, read into words and numbers.
 mod digits;
-mod enough;
 mod reader;
-mod writer;
 
-pub use enough::ENOUGH;
-pub use enough::front_length;
+pub use digits::bit_of;
+pub use digits::stored;
 pub use reader::read_card;
-pub use writer::write_card;
+use rules::Cols;
+use rules::Rows;
 
-// What is read: the packed flag, n, m, the number of cone words, max_iter and the sweep limit.
+// What is read: the packed flag, m and n, the number of cone words, max_iter and the sweep limit.
 pub enum CardRead {
     No,
     Fault(u8),
-    Read(bool, usize, usize, usize, u64, u64),
-}
-
-// How many bytes were written.
-pub enum Written {
-    No,
-    Bytes(usize),
+    Read(bool, Rows, Cols, usize, u64, u64),
 }

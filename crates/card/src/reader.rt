@@ -2,6 +2,8 @@
 use crate::CardRead;
 use crate::digits::field;
 use crate::digits::number_count;
+use rules::Cols;
+use rules::Rows;
 ghost use Prim.Native.Nat.{_+_, _*_, _≤_};
 ghost use mathlib.Core.Path.{_≡_};
 ghost use mathlib.Core.List.{_++_};
@@ -20,7 +22,7 @@ fn rest_of(bytes: &[u8], n: usize, m: usize) -> CardRead
     let packed = field(bytes, 4, 1) == 1;
     let count = field(bytes, 17, 6) as usize;
     let after_words = 23 + 16 * count;
-    let total = after_words + 20 + 7 + 64 * number_count(packed, n, m);
+    let total = after_words + 20 + 7 + 64 * number_count(packed, Rows(m), Cols(n));
     let needed = (total + 7) / 8;
     if bytes.len() < needed {
         return CardRead::Fault(1);
@@ -33,7 +35,7 @@ fn rest_of(bytes: &[u8], n: usize, m: usize) -> CardRead
     }
     let max_iter = field(bytes, after_words, 20);
     let sweep_limit = field(bytes, after_words + 20, 7);
-    CardRead::Read(packed, n, m, count, max_iter, sweep_limit)
+    CardRead::Read(packed, Rows(m), Cols(n), count, max_iter, sweep_limit)
 }
 
 // What a card says beside its lists, or its first fault.
@@ -102,15 +104,15 @@ pub fn read_card(bytes: &[u8], words: &mut [u16], numbers: &mut [u64]) -> CardRe
     match reading_of(bytes) {
         CardRead::No => return CardRead::No,
         CardRead::Fault(f) => return CardRead::Fault(f),
-        CardRead::Read(packed, n, m, count, max_iter, sweep_limit) => {
+        CardRead::Read(packed, rows, cols, count, max_iter, sweep_limit) => {
             fill_words(bytes, words, count);
             fill_numbers(
                 bytes,
                 23 + 16 * count + 20 + 7,
                 numbers,
-                number_count(packed, n, m),
+                number_count(packed, rows, cols),
             );
-            CardRead::Read(packed, n, m, count, max_iter, sweep_limit)
+            CardRead::Read(packed, rows, cols, count, max_iter, sweep_limit)
         }
     }
 }

@@ -19,7 +19,7 @@ use Rattle.rules.specs.Problem.{Problem, blocks, workLength}
 use Rattle.rules.specs.Refusals.{badCone, workShortage, numberOf}
 use Rattle.rules.proofs.Demands.{turned-away-exactly}
 use Rattle.card.specs.Card.{Card, read, readCard}
-use Rattle.card.specs.Outcome.{answerOf}
+use Rattle.card.specs.Outcome.{answerOf, rowsOf, colsOf}
 use Rattle.card.proofs.Found.{n-most, m-most}
 use Rattle.card_answer.specs.Answer.{workPlaces, problemFrom, problemOfCard, leftOf}
 
@@ -79,8 +79,8 @@ pub never-short-of-work : (bytes : List ℕ) (k : Card) (work : List Float) → 
 never-short-of-work bytes k work e h six =
     let p = problemOfCard k in
     let s = sizes k in
-    let hn : k .n ≤ 32 = n-most bytes (k .packed) (k .n) (k .m) (length (k .words)) (k .maxIter) (k .sweepLimit) (ap answerOf e) in
-    let hm : k .m ≤ 32 = m-most bytes (k .packed) (k .n) (k .m) (length (k .words)) (k .maxIter) (k .sweepLimit) (ap answerOf e) in
+    let hn : k .n ≤ 32 = n-most bytes (k .packed) (rowsOf k) (colsOf k) (length (k .words)) (k .maxIter) (k .sweepLimit) (ap answerOf e) in
+    let hm : k .m ≤ 32 = m-most bytes (k .packed) (rowsOf k) (colsOf k) (length (k .words)) (k .maxIter) (k .sweepLimit) (ap answerOf e) in
     let first = turned-away-exactly p work (replicate 56 +0) .exactly 6 (omega arith) .0 six in
     let cone : 56 ≤ length (replicate 56 +0) = rw (length-replicate 56 +0) (omega arith) in
     let fine = enough p (length work) (length (replicate 56 +0)) (rw (s .0) hn) (rw (s .1) hm) h cone (first .none-before 4 (omega arith)) in

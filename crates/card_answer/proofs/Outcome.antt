@@ -8,6 +8,8 @@ use lib.Ieee.{Float}
 use lib.ListN.{length, take, drop, getD, replicate}
 use lib.Seq.{take-at, getD-drop}
 use borrow.Author.Tests.{le-leb}
+use Rattle.rules.specs.declared.Rows.{Rows}
+use Rattle.rules.specs.declared.Cols.{Cols}
 use Rattle.rules.specs.declared.Answer.{Answer}
 use Rattle.rules.specs.declared.SolverParam.{SolverParam}
 use Rattle.rules.specs.declared.Storage.{Storage}
@@ -16,7 +18,7 @@ use Rattle.rules.specs.Problem.{problemOf}
 use Rattle.rules.specs.Refusals.{SolveOutcome}
 use Rattle.rules.proofs.Parts.{from-start}
 use Rattle.card.specs.Card.{Reading, fault, read, numbersOfA, readCard}
-use Rattle.card.specs.Outcome.{answerOf, wordsAfter, numbersAfter, holdsAny, ReadOutcome}
+use Rattle.card.specs.Outcome.{rowsOf, colsOf, answerOf, wordsAfter, numbersAfter, holdsAny, ReadOutcome}
 use Rattle.card.specs.declared.CardRead.{CardRead}
 use Rattle.card.specs.declared.CardRead.the-variants.{No, Fault as IsFault, Read}
 use Rattle.card_answer.specs.Answer.{numberAt, numbersAt, parametersOf, storageOf, problemFrom, toldOf, workAfter, CardOutcome, FieldsOutcome}
@@ -25,23 +27,23 @@ use Rattle.card_answer.specs.declared.Told.the-variants.{Fault, Answered
 
 -- ---- the problem of a card's fields
 
-pub same-problem : (packed : Bool) (n m count : ℕ) (words : List ℕ) (maxIter sweepLimit : ℕ) (numbers : List ℕ) (storage : Storage) (c a b : List Float) (par : SolverParam) → count ≡ numbersOfA packed n m
+pub same-problem : (packed : Bool) (rows : Rows) (cols : Cols) (count : ℕ) (words : List ℕ) (maxIter sweepLimit : ℕ) (numbers : List ℕ) (storage : Storage) (c a b : List Float) (par : SolverParam) → count ≡ numbersOfA packed (cols .0) (rows .0)
     → storage ≡ storageOf packed
-    → take n c ≡ numbersAt numbers 3 n
-    → take count a ≡ numbersAt numbers (3 + n) count
-    → take m b ≡ numbersAt numbers (3 + n + count) m
+    → take (cols .0) c ≡ numbersAt numbers 3 (cols .0)
+    → take count a ≡ numbersAt numbers (3 + cols .0) count
+    → take (rows .0) b ≡ numbersAt numbers (3 + cols .0 + count) (rows .0)
     → par ≡ parametersOf maxIter sweepLimit numbers
-    → problemOf m n storage (take (n - 0) (drop 0 c)) (take (count - 0) (drop 0 a)) (take (m - 0) (drop 0 b)) words par ≡ problemFrom packed n m words maxIter sweepLimit numbers
+    → problemOf (rows .0) (cols .0) storage (take (cols .0 - 0) (drop 0 c)) (take (count - 0) (drop 0 a)) (take (rows .0 - 0) (drop 0 b)) words par ≡ problemFrom packed rows cols words maxIter sweepLimit numbers
 unfolding problemFrom
-same-problem packed n m count words maxIter sweepLimit numbers storage c a b par ek es ec ea eb ep =
-    rw (from-start n, from-start count, from-start m, ec, ea, eb, es, ep, ek)
+same-problem packed rows cols count words maxIter sweepLimit numbers storage c a b par ek es ec ea eb ep =
+    rw (from-start (cols .0), from-start count, from-start (rows .0), ec, ea, eb, es, ep, ek)
 
-pub fields-outcome : (packed : Bool) (n m count : ℕ) (words : List ℕ) (maxIter sweepLimit : ℕ) (numbers : List ℕ) (work : List Float) (r : Answer) (work' cone' : List Float)
-    → SolveOutcome (problemFrom packed n m (take (count - 0) (drop 0 words)) maxIter sweepLimit numbers) work (replicate 56 +0) r work' cone'
-    → FieldsOutcome packed n m (take count words) maxIter sweepLimit numbers work (Answered n m (r .ending) (r .steps) (r .rotations)) work'
-fields-outcome packed n m count words maxIter sweepLimit numbers work r work' cone' o =
-    let p : SolveOutcome (problemFrom packed n m (take count words) maxIter sweepLimit numbers) work (replicate 56 +0) r work' cone' = rw (from-start count) at o in
-    record { answered = ap (λ (a : Answer). Answered n m (a .ending) (a .steps) (a .rotations)) (p .answered); work-left = p .work-left }
+pub fields-outcome : (packed : Bool) (rows : Rows) (cols : Cols) (count : ℕ) (words : List ℕ) (maxIter sweepLimit : ℕ) (numbers : List ℕ) (work : List Float) (r : Answer) (work' cone' : List Float)
+    → SolveOutcome (problemFrom packed rows cols (take (count - 0) (drop 0 words)) maxIter sweepLimit numbers) work (replicate 56 +0) r work' cone'
+    → FieldsOutcome packed rows cols (take count words) maxIter sweepLimit numbers work (Answered rows cols (r .ending) (r .steps) (r .rotations)) work'
+fields-outcome packed rows cols count words maxIter sweepLimit numbers work r work' cone' o =
+    let p : SolveOutcome (problemFrom packed rows cols (take count words) maxIter sweepLimit numbers) work (replicate 56 +0) r work' cone' = rw (from-start count) at o in
+    record { answered = ap (λ (a : Answer). Answered rows cols (a .ending) (a .steps) (a .rotations)) (p .answered); work-left = p .work-left }
 
 -- ---- zeros after a card's numbers are never read
 
@@ -75,10 +77,10 @@ module _ (xs ys : List ℕ) (same : (i : ℕ) → getD xs i 0 ≡ getD ys i 0) w
   unfolding parametersOf
   parameters-same maxIter sweepLimit = rw (same 0, same 1, same 2)
 
-  problem-same : (packed : Bool) (n m : ℕ) (words : List ℕ) (maxIter sweepLimit : ℕ) → problemFrom packed n m words maxIter sweepLimit xs ≡ problemFrom packed n m words maxIter sweepLimit ys
+  problem-same : (packed : Bool) (rows : Rows) (cols : Cols) (words : List ℕ) (maxIter sweepLimit : ℕ) → problemFrom packed rows cols words maxIter sweepLimit xs ≡ problemFrom packed rows cols words maxIter sweepLimit ys
   unfolding problemFrom
-  problem-same packed n m words maxIter sweepLimit =
-      rw (numbers-same 3 n, numbers-same (3 + n) (numbersOfA packed n m), numbers-same (3 + n + numbersOfA packed n m) m, parameters-same maxIter sweepLimit)
+  problem-same packed rows cols words maxIter sweepLimit =
+      rw (numbers-same 3 (cols .0), numbers-same (3 + cols .0) (numbersOfA packed (cols .0) (rows .0)), numbers-same (3 + cols .0 + numbersOfA packed (cols .0) (rows .0)) (rows .0), parameters-same maxIter sweepLimit)
 
 -- ---- what was read
 
@@ -114,31 +116,36 @@ fault-outcome bytes work f e =
     let both = of-fault (readCard bytes) f work e in
     record { answered = both .0; work-left = both .1 }
 
-of-card : (r : Reading) (packed : Bool) (n m count maxIter sweepLimit : ℕ) (zeroWords : List ℕ) (places : ℕ) (work : List Float) (told : Told) (work' : List Float)
-    → answerOf r ≡ Read packed n m count maxIter sweepLimit
-    → FieldsOutcome packed n m (take count (wordsAfter r zeroWords)) maxIter sweepLimit (numbersAfter r (zeroList places)) work told work'
+of-card : (r : Reading) (packed : Bool) (rows : Rows) (cols : Cols) (count maxIter sweepLimit : ℕ) (zeroWords : List ℕ) (places : ℕ) (work : List Float) (told : Told) (work' : List Float)
+    → answerOf r ≡ Read packed rows cols count maxIter sweepLimit
+    → FieldsOutcome packed rows cols (take count (wordsAfter r zeroWords)) maxIter sweepLimit (numbersAfter r (zeroList places)) work told work'
     → (told ≡ toldOf r work) × (work' ≡ workAfter r work)
-of-card (fault g) packed n m count maxIter sweepLimit zeroWords places work told work' e o = let z : _≡_ {A = ℕ} 0 1 = cc in absurd (omega arith)
-of-card (read k) packed n m count maxIter sweepLimit zeroWords places work told work' e o =
+of-card (fault g) packed rows cols count maxIter sweepLimit zeroWords places work told work' e o = let z : _≡_ {A = ℕ} 0 1 = cc in absurd (omega arith)
+of-card (read k) packed rows cols count maxIter sweepLimit zeroWords places work told work' e o =
     let is-packed : packed ≡ k .packed = cc in
-    let is-n : n ≡ k .n = cc in
-    let is-m : m ≡ k .m = cc in
+    let is-m : rows ≡ rowsOf k = cc in
+    let is-n : cols ≡ colsOf k = cc in
     let is-count : count ≡ length (k .words) = cc in
     let is-max : maxIter ≡ k .maxIter = cc in
     let is-limit : sweepLimit ≡ k .sweepLimit = cc in
     let front : take count (k .words ++ drop (length (k .words)) zeroWords) ≡ k .words = take-at (k .words) (drop (length (k .words)) zeroWords) count (sym is-count) in
     let rest : (j : ℕ) → getD (drop (length (k .numbers)) (zeroList places)) j 0 ≡ 0 = λ j. getD-drop (length (k .numbers)) (zeroList places) j 0 ∙ zero-at places (length (k .numbers) + j) in
     let same = problem-same (k .numbers ++ drop (length (k .numbers)) (zeroList places)) (k .numbers) (λ i. before-zeros (k .numbers) (drop (length (k .numbers)) (zeroList places)) i rest) in
-    let as-card = rw (front, same packed n m (k .words) maxIter sweepLimit, is-packed, is-n, is-m, is-max, is-limit) at (o .answered) in
-    let left-as-card = rw (front, same packed n m (k .words) maxIter sweepLimit, is-packed, is-n, is-m, is-max, is-limit) at (o .work-left) in
+    let as-card = rw (front, same packed rows cols (k .words) maxIter sweepLimit, is-packed, is-m, is-n, is-max, is-limit) at (o .answered) in
+    let left-as-card = rw (front, same packed rows cols (k .words) maxIter sweepLimit, is-packed, is-m, is-n, is-max, is-limit) at (o .work-left) in
     (as-card, left-as-card)
 
-pub card-outcome : (bytes : List ℕ) (packed : Bool) (n m count maxIter sweepLimit : ℕ) (zeroWords : List ℕ) (places : ℕ) (wordsLeft numbersLeft : List ℕ) (work : List Float) (told : Told) (work' : List Float)
-    → answerOf (readCard bytes) ≡ Read packed n m count maxIter sweepLimit
+pub card-outcome : (bytes : List ℕ) (packed : Bool) (rows : Rows) (cols : Cols) (count maxIter sweepLimit : ℕ) (zeroWords : List ℕ) (places : ℕ) (wordsLeft numbersLeft : List ℕ) (work : List Float) (told : Told) (work' : List Float)
+    → answerOf (readCard bytes) ≡ Read packed rows cols count maxIter sweepLimit
     → wordsLeft ≡ wordsAfter (readCard bytes) zeroWords
     → numbersLeft ≡ numbersAfter (readCard bytes) (zeroList places)
-    → FieldsOutcome packed n m (take count wordsLeft) maxIter sweepLimit numbersLeft work told work'
+    → FieldsOutcome packed rows cols (take count wordsLeft) maxIter sweepLimit numbersLeft work told work'
     → CardOutcome bytes work told work'
-card-outcome bytes packed n m count maxIter sweepLimit zeroWords places wordsLeft numbersLeft work told work' e ew en o =
-    let both = of-card (readCard bytes) packed n m count maxIter sweepLimit zeroWords places work told work' e (rw (ew, en) at o) in
+card-outcome bytes packed rows cols count maxIter sweepLimit zeroWords places wordsLeft numbersLeft work told work' e ew en o =
+    let both = of-card (readCard bytes) packed rows cols count maxIter sweepLimit zeroWords places work told work' e (rw (ew, en) at o) in
     record { answered = both .0; work-left = both .1 }
+
+-- ---- any two answers that the contract allows coincide, in what is told and in each place of work
+
+pub any-two-answers-coincide : {bytes : List ℕ} {work : List Float} {a b : Told} {v w : List Float} → CardOutcome bytes work a v → CardOutcome bytes work b w → (a ≡ b) × (v ≡ w)
+any-two-answers-coincide p q = (p .answered ∙ sym (q .answered), p .work-left ∙ sym (q .work-left))

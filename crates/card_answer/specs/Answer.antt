@@ -5,14 +5,18 @@ use mathlib.Core.Bool.{Bool, cond}
 use mathlib.Core.List.{List}
 use lib.Ieee.{Float, binary64, ofBits}
 use lib.ListN.{getD, replicate}
+use Rattle.rules.specs.declared.Rows.{Rows}
+use Rattle.rules.specs.declared.Cols.{Cols}
 use Rattle.rules.specs.declared.SolverParam.{SolverParam}
 use Rattle.rules.specs.declared.Storage.{Storage}
 use Rattle.rules.specs.declared.Storage.the-variants.{Dense, Packed}
 use Rattle.rules.specs.Arithmetic.{+0, tabulate}
+use Rattle.rules.specs.Parameters.{paramOf}
 use Rattle.rules.specs.Problem.{Problem, problemOf}
 use Rattle.rules.specs.Run.{Left}
 use Rattle.rules.specs.Refusals.{solved}
 use Rattle.card.specs.Card.{Card, Reading, fault, read, numbersOfA, readCard}
+use Rattle.card.specs.Outcome.{rowsOf, colsOf}
 use Rattle.card_answer.specs.declared.Told.{Told}
 use Rattle.card_answer.specs.declared.Told.the-variants.{Fault, Answered}
 
@@ -29,20 +33,16 @@ numbersAt numbers from count = tabulate count (λ k. numberAt numbers (from + k)
 
 unfoldable pub parametersOf : ℕ → ℕ → List ℕ → SolverParam
 parametersOf maxIter sweepLimit numbers =
-    record {
-      «max_iter» = maxIter;
-      «eps_acc» = numberAt numbers 0;
-      «eps_inf» = numberAt numbers 1;
-      «eps_zero» = numberAt numbers 2;
-      «sweep_limit» = sweepLimit;
-    }
+    paramOf maxIter (numberAt numbers 0) (numberAt numbers 1) (numberAt numbers 2) sweepLimit
 
 abbrev pub storageOf : Bool → Storage
 storageOf packed = cond packed Packed Dense
 
-unfoldable pub problemFrom : Bool → ℕ → ℕ → List ℕ → ℕ → ℕ → List ℕ → Problem
+unfoldable pub problemFrom : Bool → Rows → Cols → List ℕ → ℕ → ℕ → List ℕ → Problem
 unfolding numbersAt parametersOf
-problemFrom packed n m words maxIter sweepLimit numbers =
+problemFrom packed rows cols words maxIter sweepLimit numbers =
+    let m = rows .0 in
+    let n = cols .0 in
     problemOf m n (storageOf packed)
     (numbersAt numbers 3 n)
     (numbersAt numbers (3 + n) (numbersOfA packed n m))
@@ -51,7 +51,7 @@ problemFrom packed n m words maxIter sweepLimit numbers =
     (parametersOf maxIter sweepLimit numbers)
 
 abbrev pub problemOfCard : Card → Problem
-problemOfCard k = problemFrom (k .packed) (k .n) (k .m) (k .words) (k .maxIter) (k .sweepLimit) (k .numbers)
+problemOfCard k = problemFrom (k .packed) (rowsOf k) (colsOf k) (k .words) (k .maxIter) (k .sweepLimit) (k .numbers)
 
 -- ---- what becomes of a card
 
@@ -66,14 +66,14 @@ conePlaces = 56
 abbrev pub leftOf : Problem → List Float → Left
 leftOf p work = solved p work (replicate conePlaces +0)
 
--- n and m, how the problem ends or why it is turned away, k and q
-abbrev pub answeredOf : ℕ → ℕ → Left → Told
-answeredOf n m left = Answered n m (left .answer .ending) (left .answer .steps) (left .answer .rotations)
+-- m and n, how the problem ends or why it is turned away, k and q
+abbrev pub answeredOf : Rows → Cols → Left → Told
+answeredOf rows cols left = Answered rows cols (left .answer .ending) (left .answer .steps) (left .answer .rotations)
 
 -- the card's fault, or its answer
 abbrev pub toldOf : Reading → List Float → Told
 toldOf (fault f) work = Fault f
-toldOf (read k) work = answeredOf (k .n) (k .m) (leftOf (problemOfCard k) work)
+toldOf (read k) work = answeredOf (rowsOf k) (colsOf k) (leftOf (problemOfCard k) work)
 
 abbrev pub workAfter : Reading → List Float → List Float
 workAfter (fault f) work = work
@@ -84,6 +84,6 @@ pub record CardOutcome (bytes : List ℕ) (work : List Float) (told : Told) (wor
   pub work-left : work' ≡ workAfter (readCard bytes) work
 
 -- the same of a card's fields
-pub record FieldsOutcome (packed : Bool) (n m : ℕ) (words : List ℕ) (maxIter sweepLimit : ℕ) (numbers : List ℕ) (work : List Float) (told : Told) (work' : List Float) : Type 0 where
-  pub answered : told ≡ answeredOf n m (leftOf (problemFrom packed n m words maxIter sweepLimit numbers) work)
-  pub work-left : work' ≡ leftOf (problemFrom packed n m words maxIter sweepLimit numbers) work .work
+pub record FieldsOutcome (packed : Bool) (rows : Rows) (cols : Cols) (words : List ℕ) (maxIter sweepLimit : ℕ) (numbers : List ℕ) (work : List Float) (told : Told) (work' : List Float) : Type 0 where
+  pub answered : told ≡ answeredOf rows cols (leftOf (problemFrom packed rows cols words maxIter sweepLimit numbers) work)
+  pub work-left : work' ≡ leftOf (problemFrom packed rows cols words maxIter sweepLimit numbers) work .work

@@ -11,17 +11,16 @@ ghost use mathlib.Core.Path.{_≡_};
 ghost use mathlib.Core.List.{_++_};
 ghost use lib.ListN.{length, drop, take};
 ghost use Rattle.rules.specs.Refusals.{SolveOutcome};
-ghost use Rattle.card.specs.Card.{numbersOfA};
 ghost use Rattle.card_answer.specs.Answer.{numbersAt, parametersOf, storageOf, problemFrom, FieldsOutcome, CardOutcome};
 
-// The card's fault; or n and m, how its problem ended or why it was turned away, k and q.
+// The card's fault; or m and n, how its problem ended or why it was turned away, k and q.
 pub enum Told {
     Fault(u8),
-    Answered(usize, usize, Ending, u64, u64),
+    Answered(Rows, Cols, Ending, u64, u64),
 }
 
 // How many words and how many numbers a card may have.
-const WORDS: usize = 63;
+const CARD_WORDS: usize = 63;
 
 const NUMBERS: usize = 1091;
 
@@ -75,13 +74,13 @@ fn parameters(numbers: &[u64], max_iter: u64, sweep_limit: u64) -> SolverParam
     requires { ⌜ 3 ≤ length (now numbers) ⌝ }
     ensures { λ r. ⌜ r ≡ parametersOf «max_iter» «sweep_limit» (now (numbers .entry)) ⌝ }
 {
-    SolverParam {
+    SolverParam::of(
         max_iter,
-        eps_acc: patterns::number_of(numbers[0]),
-        eps_inf: patterns::number_of(numbers[1]),
-        eps_zero: patterns::number_of(numbers[2]),
+        patterns::number_of(numbers[0]),
+        patterns::number_of(numbers[1]),
+        patterns::number_of(numbers[2]),
         sweep_limit,
-    }
+    )
 }
 
 fn storage_of(packed: bool) -> Storage
@@ -94,24 +93,11 @@ fn storage_of(packed: bool) -> Storage
     }
 }
 
-// How many numbers A has.
-fn stored(packed: bool, n: usize, m: usize) -> usize
-    requires { ⌜ n ≤ 32 ⌝ }
-    requires { ⌜ m ≤ 32 ⌝ }
-    ensures value { λ r. ⌜ r ≡ numbersOfA packed n m ⌝ }
-    ensures bound { λ r. ⌜ r ≤ 1024 ⌝ }
-{
-    if packed {
-        return n * (n + 1) / 2;
-    }
-    m * n
-}
-
 // Solves the problem of these fields.
 fn solve_fields(
     packed: bool,
-    n: usize,
-    m: usize,
+    rows: Rows,
+    cols: Cols,
     words: &[u16],
     max_iter: u64,
     sweep_limit: u64,
@@ -119,19 +105,25 @@ fn solve_fields(
     work: &mut [f64],
     cone_work: &mut [f64],
 ) -> Answer
-    requires { ⌜ n ≤ 32 ⌝ }
-    requires { ⌜ m ≤ 32 ⌝ }
+    requires { ⌜ rows .0 ≤ 32 ⌝ }
+    requires { ⌜ cols .0 ≤ 32 ⌝ }
     requires { ⌜ 1091 ≤ length (now numbers) ⌝ }
-    ensures { λ r. ⌜ SolveOutcome (problemFrom packed n m (now (words .entry)) «max_iter» «sweep_limit» (now (numbers .entry))) (now (work .entry)) (now («cone_work» .entry)) r (now (work .exit)) (now («cone_work» .exit)) ⌝ }
+    ensures { λ r. ⌜
+        SolveOutcome
+        (problemFrom packed rows cols (now (words .entry)) «max_iter» «sweep_limit» (now (numbers .entry)))
+        (now (work .entry)) (now («cone_work» .entry)) r (now (work .exit)) (now («cone_work» .exit))
+        ⌝ }
 {
-    let count = stored(packed, n, m);
+    let m = rows.0;
+    let n = cols.0;
+    let count = card::stored(packed, rows, cols);
     let c = vector(numbers, 3, n);
     let a = matrix(numbers, 3 + n, count);
     let b = vector(numbers, 3 + n + count, m);
     solver::solve(
         parameters(numbers, max_iter, sweep_limit),
-        Rows(m),
-        Cols(n),
+        rows,
+        cols,
         storage_of(packed),
         &c[0..n],
         &a[0..count],
@@ -145,8 +137,8 @@ fn solve_fields(
 // The answer to a card's fields, whose words are the first of a list.
 fn answer_fields(
     packed: bool,
-    n: usize,
-    m: usize,
+    rows: Rows,
+    cols: Cols,
     count: usize,
     max_iter: u64,
     sweep_limit: u64,
@@ -154,17 +146,20 @@ fn answer_fields(
     numbers: &[u64],
     work: &mut [f64],
 ) -> Told
-    requires { ⌜ n ≤ 32 ⌝ }
-    requires { ⌜ m ≤ 32 ⌝ }
+    requires { ⌜ rows .0 ≤ 32 ⌝ }
+    requires { ⌜ cols .0 ≤ 32 ⌝ }
     requires { ⌜ count ≤ length (now words) ⌝ }
     requires { ⌜ 1091 ≤ length (now numbers) ⌝ }
-    ensures { λ r. ⌜ FieldsOutcome packed n m (take count (now (words .entry))) «max_iter» «sweep_limit» (now (numbers .entry)) (now (work .entry)) r (now (work .exit)) ⌝ }
+    ensures { λ r. ⌜
+        FieldsOutcome packed rows cols (take count (now (words .entry))) «max_iter» «sweep_limit»
+        (now (numbers .entry)) (now (work .entry)) r (now (work .exit))
+        ⌝ }
 {
     let mut cone_work = [0.0; CONE_WORK];
     let answer = solve_fields(
         packed,
-        n,
-        m,
+        rows,
+        cols,
         &words[0..count],
         max_iter,
         sweep_limit,
@@ -173,23 +168,23 @@ fn answer_fields(
         &mut cone_work,
     );
     let ending = answer.ending;
-    Told::Answered(n, m, ending, answer.steps, answer.rotations)
+    Told::Answered(rows, cols, ending, answer.steps, answer.rotations)
 }
 
 // Reads a card and solves its problem in the work that is lent.
 pub fn answer(bytes: &[u8], work: &mut [f64]) -> Told
     ensures { λ r. ⌜ CardOutcome (now (bytes .entry)) (now (work .entry)) r (now (work .exit)) ⌝ }
 {
-    let mut words = [0u16; WORDS];
+    let mut words = [0u16; CARD_WORDS];
     let mut numbers = [0u64; NUMBERS];
     match card::read_card(bytes, &mut words, &mut numbers) {
         CardRead::No => Told::Fault(0),
         CardRead::Fault(f) => Told::Fault(f),
-        CardRead::Read(packed, n, m, count, max_iter, sweep_limit) => {
+        CardRead::Read(packed, rows, cols, count, max_iter, sweep_limit) => {
             answer_fields(
                 packed,
-                n,
-                m,
+                rows,
+                cols,
                 count,
                 max_iter,
                 sweep_limit,

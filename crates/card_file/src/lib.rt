@@ -1,4 +1,8 @@
 // The front of a card file, read into a buffer: as much as tells its card.
+mod enough;
+
+pub use enough::ENOUGH;
+pub use enough::front_length;
 ghost use Rattle.io.specs.Counts.{Counts};
 ghost use Rattle.card_file.specs.Front.{FrontOutcome};
 
@@ -8,7 +12,7 @@ pub fn read_front(fd: i32, most: usize, bytes: &mut [u8]) -> usize
     ensures { λ r. ⌜ Counts r (now (bytes .exit)) ⌝ }
     ensures { λ r. ⌜ FrontOutcome most (now (bytes .entry)) r (now (bytes .exit)) ⌝ }
 {
-    let count = card::front_length(most);
+    let count = front_length(most);
     if bytes.len() < count {
         return 0;
     }

@@ -57,7 +57,7 @@ same-answer (ConeFailure b) k q x y s t d e = same-ended _ k q x y s t d e
 
 pub same-told : (told : Told) (work : List Float) (s t : List ℕ) → ToldText told work s → ToldText told work t → s ≡ t
 same-told (Fault f) work s t d e = same-numbered _ f s t d e
-same-told (Answered n m a k q) work s t d e = same-answer a k q (solutionX n work) (solutionY m n work) s t d e
+same-told (Answered rows cols a k q) work s t d e = same-answer a k q (solutionX (cols .0) work) (solutionY (rows .0) (cols .0) work) s t d e
 
 -- the text of a card, where the buffer holds any
 same-text : (bytes before : List ℕ) (j k : ℕ) (after after' : List ℕ) → Says (CardText (readCard bytes)) before j after → Says (CardText (readCard bytes)) before k after'

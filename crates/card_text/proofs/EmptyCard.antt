@@ -18,7 +18,7 @@ use Rattle.card_text.specs.EmptyCard.{emptyCard, theLine}
 use Rattle.card_answer.specs.declared.Told.the-variants.{Answered}
 use Rattle.card_text.proofs.Coincide.{same-told}
 
-told-of-empty : toldOf (readCard emptyCard) (replicate workPlaces +0) ≡ Answered 0 0 (Converged +0 +0 +0) 1 0
+told-of-empty : toldOf (readCard emptyCard) (replicate workPlaces +0) ≡ Answered (record { 0 = 0 }) (record { 0 = 0 }) (Converged +0 +0 +0) 1 0
 unfolding emptyCard readCard problemFrom solved
 told-of-empty = refl
 
@@ -53,5 +53,5 @@ allowed work =
 pub the-empty-problem : (before : List ℕ) (count : ℕ) (after : List ℕ) → textRoom ≤ length before → TextOutcome emptyCard before count after → take count after ≡ theLine
 the-empty-problem before count after h o =
     let work = workAfter (readCard emptyCard) (replicate workPlaces +0) in
-    let text : ToldText (Answered 0 0 (Converged +0 +0 +0) 1 0) work (take count after) = rw told-of-empty at (o .written h .said) in
-    same-told (Answered 0 0 (Converged +0 +0 +0) 1 0) work (take count after) theLine text (allowed work)
+    let text : ToldText (Answered (record { 0 = 0 }) (record { 0 = 0 }) (Converged +0 +0 +0) 1 0) work (take count after) = rw told-of-empty at (o .written h .said) in
+    same-told (Answered (record { 0 = 0 }) (record { 0 = 0 }) (Converged +0 +0 +0) 1 0) work (take count after) theLine text (allowed work)

@@ -1,4 +1,5 @@
 pub mod Texts
+pub mod Answers
 pub mod Whole
 pub mod Coincide
 pub mod EmptyCard

@@ -12,7 +12,7 @@ use Rattle.io.specs.Counts.{Counts}
 use Rattle.rules.specs.Arithmetic.{+0}
 use Rattle.rules.specs.Run.{solutionX, solutionY}
 use Rattle.card.specs.Card.{Reading, fault, read, readCard}
-use Rattle.card.specs.Outcome.{answerOf}
+use Rattle.card.specs.Outcome.{answerOf, rowsOf as cardRows, colsOf as cardCols}
 use Rattle.card.proofs.Found.{n-most, m-most}
 use Rattle.card_answer.specs.Answer.{workPlaces, toldOf, CardOutcome}
 use Rattle.card_text.specs.Text.{textRoom, ToldText, Says, TextOutcome}
@@ -37,14 +37,14 @@ y-within m n work h = short (leb (n + m) (length work)) m (drop n work) h
 
 columns : (bytes : List ℕ) (work : List Float) (r : Reading) → readCard bytes ≡ r → columnsOf (toldOf r work) ≤ 32
 columns bytes work (fault f) e = omega arith
-columns bytes work (read k) e = n-most bytes (k .packed) (k .n) (k .m) (length (k .words)) (k .maxIter) (k .sweepLimit) (ap answerOf e)
+columns bytes work (read k) e = n-most bytes (k .packed) (cardRows k) (cardCols k) (length (k .words)) (k .maxIter) (k .sweepLimit) (ap answerOf e)
 
 pub columns-within : (bytes : List ℕ) (work : List Float) (told : Told) → told ≡ toldOf (readCard bytes) work → columnsOf told ≤ 32
 columns-within bytes work told e = rw e (columns bytes work (readCard bytes) refl)
 
 rows : (bytes : List ℕ) (work : List Float) (r : Reading) → readCard bytes ≡ r → rowsOf (toldOf r work) ≤ 32
 rows bytes work (fault f) e = omega arith
-rows bytes work (read k) e = m-most bytes (k .packed) (k .n) (k .m) (length (k .words)) (k .maxIter) (k .sweepLimit) (ap answerOf e)
+rows bytes work (read k) e = m-most bytes (k .packed) (cardRows k) (cardCols k) (length (k .words)) (k .maxIter) (k .sweepLimit) (ap answerOf e)
 
 pub rows-within : (bytes : List ℕ) (work : List Float) (told : Told) → told ≡ toldOf (readCard bytes) work → rowsOf told ≤ 32
 rows-within bytes work told e = rw e (rows bytes work (readCard bytes) refl)

@@ -9,6 +9,7 @@ use Rattle.io.specs.Digits.{digits, Fewest}
 use Rattle.rules.specs.declared.Ending.{Ending}
 use Rattle.rules.specs.declared.Ending.the-variants.{BadParam, TooLarge, InvalidOp, BadCone, NotFinite, WorkShortage, Converged, ExcessIter, ExcessIterUnscaled, Unbounded, Infeasible, ConeFailure}
 use Rattle.rules.specs.Arithmetic.{+0}
+use Rattle.rules.specs.Refusals.{numberOf}
 use Rattle.rules.specs.Run.{solutionX, solutionY}
 use Rattle.card.specs.Card.{Reading, readCard}
 use Rattle.card_answer.specs.Answer.{workPlaces, toldOf, workAfter}
@@ -80,12 +81,12 @@ coneFailure = 67 ∷ 111 ∷ 110 ∷ 101 ∷ 70 ∷ 97 ∷ 105 ∷ 108 ∷ 117 �
 
 -- "`Refused N`", with document 01's number, "or the ending's name", which is ExcessIter in both its cases
 abbrev pub AnswerText : Ending → ℕ → ℕ → List Float → List Float → List ℕ → Type 0
-AnswerText BadParam k q x y = Numbered refused 1
-AnswerText TooLarge k q x y = Numbered refused 2
-AnswerText InvalidOp k q x y = Numbered refused 3
-AnswerText BadCone k q x y = Numbered refused 4
-AnswerText NotFinite k q x y = Numbered refused 5
-AnswerText WorkShortage k q x y = Numbered refused 6
+AnswerText BadParam k q x y = Numbered refused (numberOf BadParam)
+AnswerText TooLarge k q x y = Numbered refused (numberOf TooLarge)
+AnswerText InvalidOp k q x y = Numbered refused (numberOf InvalidOp)
+AnswerText BadCone k q x y = Numbered refused (numberOf BadCone)
+AnswerText NotFinite k q x y = Numbered refused (numberOf NotFinite)
+AnswerText WorkShortage k q x y = Numbered refused (numberOf WorkShortage)
 AnswerText (Converged a b c) k q x y = Ended converged k q x y
 AnswerText (ExcessIter a b c) k q x y = Ended excessIter k q x y
 AnswerText (ExcessIterUnscaled a b) k q x y = Ended excessIter k q x y
@@ -96,7 +97,7 @@ AnswerText (ConeFailure b) k q x y = Ended coneFailure k q x y
 -- what is told, as text
 abbrev pub ToldText : Told → List Float → List ℕ → Type 0
 ToldText (Fault f) work = Numbered card f
-ToldText (Answered n m e k q) work = AnswerText e k q (solutionX n work) (solutionY m n work)
+ToldText (Answered rows cols e k q) work = AnswerText e k q (solutionX (cols .0) work) (solutionY (rows .0) (cols .0) work)
 
 -- "The program writes .." for a card that is read so: what is told of it over zeroed work
 abbrev pub CardText : Reading → List ℕ → Type 0

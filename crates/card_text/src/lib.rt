@@ -5,9 +5,8 @@ mod lines;
 use card_answer::Told;
 use lines::put_ended;
 use lines::put_numbered;
-use rules::Cols;
+use lines::refusal_of;
 use rules::Ending;
-use rules::Rows;
 ghost use Prim.Native.Nat.{_≤_};
 ghost use lib.ListN.{length};
 ghost use Rattle.io.specs.Counts.{Counts};
@@ -32,22 +31,11 @@ fn put_answer(
     ensures { λ r. ⌜ r ≤ 1200 ⌝ }
     ensures { λ r. ⌜ Says (AnswerText ending steps rotations (now (x .entry)) (now (y .entry))) (now (text .entry)) r (now (text .exit)) ⌝ }
 {
-    match ending {
-        Ending::BadParam => put_numbered(text, b"Refused ", 1),
-        Ending::TooLarge => put_numbered(text, b"Refused ", 2),
-        Ending::InvalidOp => put_numbered(text, b"Refused ", 3),
-        Ending::BadCone => put_numbered(text, b"Refused ", 4),
-        Ending::NotFinite => put_numbered(text, b"Refused ", 5),
-        Ending::WorkShortage => put_numbered(text, b"Refused ", 6),
-        Ending::Converged(_, _, _) => put_ended(text, b"Converged ", steps, rotations, x, y),
-        Ending::ExcessIter(_, _, _) => put_ended(text, b"ExcessIter ", steps, rotations, x, y),
-        Ending::ExcessIterUnscaled(_, _) => {
-            put_ended(text, b"ExcessIter ", steps, rotations, x, y)
-        }
-        Ending::Unbounded(_) => put_ended(text, b"Unbounded ", steps, rotations, x, y),
-        Ending::Infeasible(_) => put_ended(text, b"Infeasible ", steps, rotations, x, y),
-        Ending::ConeFailure(_) => put_ended(text, b"ConeFailure ", steps, rotations, x, y),
+    let number = refusal_of(ending);
+    if number > 0 {
+        return put_numbered(text, b"Refused ", number);
     }
+    put_ended(text, ending, steps, rotations, x, y)
 }
 
 // Puts what was told of a card, of which the solution stands in work.
@@ -60,14 +48,14 @@ fn put_told(text: &mut [u8], told: Told, work: &[f64]) -> usize
 {
     match told {
         Told::Fault(number) => put_numbered(text, b"Card ", number as u64),
-        Told::Answered(n, m, ending, steps, rotations) => {
+        Told::Answered(rows, cols, ending, steps, rotations) => {
             put_answer(
                 text,
                 ending,
                 steps,
                 rotations,
-                solution::solution_x(work, Cols(n)),
-                solution::solution_y(work, Rows(m), Cols(n)),
+                solution::solution_x(work, cols),
+                solution::solution_y(work, rows, cols),
             )
         }
     }

@@ -1,3 +1,4 @@
 pub mod Finite
 pub mod Refused
 pub mod Read
+pub mod Coincide

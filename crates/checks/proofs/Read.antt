@@ -4,10 +4,11 @@ use mathlib.Core.Bool.{true, false}
 use lib.Ieee.{eq}
 use Rattle.rules.specs.declared.SolverParam.{SolverParam}
 use Rattle.rules.specs.Arithmetic.{+0}
+use Rattle.rules.specs.Parameters.{withEpsZero}
 use Rattle.rules.specs.Problem.{asRead}
 
 pub read-zero : (par : SolverParam) → eq (par .«eps_zero») +0 ≡ true
-    → record { «max_iter» = par .«max_iter»; «eps_acc» = par .«eps_acc»; «eps_inf» = par .«eps_inf»; «eps_zero» = +0; «sweep_limit» = par .«sweep_limit» } ≡ asRead par
+    → withEpsZero par +0 ≡ asRead par
 unfolding asRead
 read-zero par e = rw e
 

@@ -1,28 +1,25 @@
 // When the hub is turned away: the six tests, in order. Sizes are bounded before any arithmetic on them.
+use rules::Cols;
 use rules::Ending;
 use rules::LIMIT;
 use rules::MOST_STEPS;
-use rules::SWEEPS;
+use rules::MOST_SWEEPS;
+use rules::MOST_WORDS;
+use rules::Refusal;
+use rules::Rows;
 use rules::SolverParam;
 use rules::Storage;
-use rules::WORDS;
 ghost use Prim.Native.Nat.{_≤_};
 ghost use mathlib.Core.Path.{_≡_};
 ghost use Rattle.rules.specs.Limits.{limit};
-ghost use Rattle.rules.specs.Refusals.{isFinite, allFinite, badParam, refusal};
+ghost use Rattle.rules.specs.Refusals.{isFinite, allFinite, badParam, largeSizes, wrongLengths, someNotFinite, shortBuffers, refusal};
 ghost use Rattle.rules.specs.Problem.{problemOf, asRead};
-ghost use Rattle.checks.specs.Check.{asRefusal, largeSizes, wrongLengths, someInfinite, shortBuffers};
-
-pub enum Checked {
-    Accepted,
-    Refused(Ending),
-}
 
 // The first test that applies.
 pub fn check(
     par: SolverParam,
-    m: usize,
-    n: usize,
+    rows: Rows,
+    cols: Cols,
     storage: Storage,
     c: &[f64],
     a: &[f64],
@@ -30,32 +27,40 @@ pub fn check(
     words: &[u16],
     work: usize,
     cone_work: usize,
-) -> Checked
-    ensures { λ r. ⌜ asRefusal r ≡ refusal (problemOf m n storage (now (c .entry)) (now (a .entry)) (now (b .entry)) (now (words .entry)) par) work «cone_work» ⌝ }
+) -> Refusal
+    ensures { λ r. ⌜
+        r
+        ≡ refusal
+        (problemOf (rows .0) (cols .0) storage (now (c .entry)) (now (a .entry)) (now (b .entry))
+        (now (words .entry)) par)
+        work «cone_work»
+        ⌝ }
 {
+    let m = rows.0;
+    let n = cols.0;
     let param_is_bad = bad_param(par);
     let size_is_too_large = too_large(m, n, words);
     if param_is_bad {
-        return Checked::Refused(Ending::BadParam);
+        return Refusal::Refused(Ending::BadParam);
     }
     if size_is_too_large {
-        return Checked::Refused(Ending::TooLarge);
+        return Refusal::Refused(Ending::TooLarge);
     }
     if invalid_op(m, n, storage, c, a, b) {
-        return Checked::Refused(Ending::InvalidOp);
+        return Refusal::Refused(Ending::InvalidOp);
     }
     let cone_is_bad = words::is_bad_cone(words, m);
     let number_is_not_finite = not_finite(c, a, b);
     if cone_is_bad {
-        return Checked::Refused(Ending::BadCone);
+        return Refusal::Refused(Ending::BadCone);
     }
     if number_is_not_finite {
-        return Checked::Refused(Ending::NotFinite);
+        return Refusal::Refused(Ending::NotFinite);
     }
     if work_shortage(m, n, words, work, cone_work) {
-        return Checked::Refused(Ending::WorkShortage);
+        return Refusal::Refused(Ending::WorkShortage);
     }
-    Checked::Accepted
+    Refusal::Accepted
 }
 
 fn is_finite(x: f64) -> bool
@@ -86,7 +91,7 @@ fn bad_param(par: SolverParam) -> bool
     if par.sweep_limit < 1 {
         return true;
     }
-    par.sweep_limit > SWEEPS
+    par.sweep_limit > MOST_SWEEPS
 }
 
 fn too_large(m: usize, n: usize, words: &[u16]) -> bool
@@ -98,7 +103,7 @@ fn too_large(m: usize, n: usize, words: &[u16]) -> bool
     if m > LIMIT {
         return true;
     }
-    words.len() > WORDS
+    words.len() > MOST_WORDS
 }
 
 fn invalid_op(m: usize, n: usize, storage: Storage, c: &[f64], a: &[f64], b: &[f64]) -> bool
@@ -123,7 +128,7 @@ fn invalid_op(m: usize, n: usize, storage: Storage, c: &[f64], a: &[f64], b: &[f
 }
 
 fn not_finite(c: &[f64], a: &[f64], b: &[f64]) -> bool
-    ensures { λ r. ⌜ r ≡ someInfinite (now (c .entry)) (now (a .entry)) (now (b .entry)) ⌝ }
+    ensures { λ r. ⌜ r ≡ someNotFinite (now (c .entry)) (now (a .entry)) (now (b .entry)) ⌝ }
 {
     if !all_finite(c) {
         return true;
@@ -160,13 +165,7 @@ pub fn read_eps(par: SolverParam) -> SolverParam
     ensures { λ r. ⌜ r ≡ asRead par ⌝ }
 {
     if par.eps_zero == 0.0 {
-        return SolverParam {
-            max_iter: par.max_iter,
-            eps_acc: par.eps_acc,
-            eps_inf: par.eps_inf,
-            eps_zero: 0.0,
-            sweep_limit: par.sweep_limit,
-        };
+        return SolverParam::with_eps_zero(par, 0.0);
     }
     par
 }

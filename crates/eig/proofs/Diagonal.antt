@@ -1,4 +1,4 @@
--- Loops along the diagonal: before the first turn, at a turn, after the last.
+-- Loops along the diagonal: before the first place, at a place, after the last.
 use Prim.Native.Nat.{ℕ, _+_, _*_, _<_, _≤_}
 use native.Mathlib.Omega.{arith}
 use mathlib.Core.Path.{_≡_, refl, sym, _∙_, ap}
@@ -12,11 +12,11 @@ use Rattle.rules.specs.Limits.{limit}
 use Rattle.rules.specs.Helpers.{one}
 use Rattle.rules.specs.Arithmetic.{_*ᶠ_, +0, at, each}
 use Rattle.rules.specs.Matrices.{triangle}
-use Rattle.rules.specs.Jacobi.{packed, square, inPacked, packedPlace}
+use Rattle.rules.specs.Jacobi.{packed, square, inPacked}
 use Rattle.rules.specs.Projections.{diagonalTimes, unit}
 use Rattle.rules.proofs.Arithmetic.{each-length, each-at}
-use Rattle.rules.proofs.Columns.{by-less, by-same, packed-self, packed-same, packed-at, packed-set, packedPlace-le, square-is, square-same, square-set, square-inside}
-use Rattle.eig.proofs.Small.{product-small}
+use Rattle.rules.proofs.Columns.{by-less, by-same, packed-self, packed-same, packed-at, packed-set, square-is, square-same, square-set, square-inside}
+use Rattle.rules.proofs.Matrices.{square-small}
 
 -- The first k entries of the diagonal hold what f says, and the other entries what they held.
 abbrev diagonalTo : (ℕ → ℕ → Float) → (ℕ → ℕ → Float) → ℕ → ℕ → ℕ → Float
@@ -64,15 +64,14 @@ scaled-none by n x stored =
       within = omega arith;
     }
 
-pub scaled-more : {by : Float} {n k p : ℕ} {x x' : List Float} → ScaledTo by n k x x' → k < n → p ≡ packedPlace k k → ScaledTo by n (k + 1) x (set x' p (at x' p *ᶠ by))
+pub scaled-more : {by : Float} {n k p : ℕ} {x x' : List Float} → ScaledTo by n k x x' → k < n → p ≡ triangle k + k → ScaledTo by n (k + 1) x (set x' p (at x' p *ᶠ by))
 scaled-more {by} {n} {k} {p} {x} {x'} r h e =
-    let where' : p ≡ triangle k + k = e ∙ packedPlace-le k k (omega arith) in
     let held : at x' (triangle k + k) ≡ inPacked n x k k = ap (λ (l : List Float). at l (triangle k + k)) (r .is) ∙ packed-at n (diagonalTo (times by n x) (inPacked n x) k) k k (omega arith) h ∙ diagonal-yet (times by n x) (inPacked n x) k in
     let stored : set x' (triangle k + k) (at x' (triangle k + k) *ᶠ by) ≡ packed n (diagonalTo (times by n x) (inPacked n x) (k + 1)) =
     packed-set (diagonalTo (times by n x) (inPacked n x) (k + 1)) k k (at x' (triangle k + k) *ᶠ by) (r .is) (omega arith) h
     (rw held (diagonal-here (times by n x) (inPacked n x) k))
     (λ p q hp hq apart. diagonal-elsewhere (times by n x) (inPacked n x) k p q apart) in
-    record { is = rw where' stored; same = length-set x' p (at x' p *ᶠ by) ∙ r .same; within = omega arith }
+    record { is = rw e stored; same = length-set x' p (at x' p *ᶠ by) ∙ r .same; within = omega arith }
 
 pub scaled-all : {by : Float} {n k : ℕ} {x x' : List Float} → ScaledTo by n k x x' → n ≤ k → x' ≡ diagonalTimes by n x
 unfolding diagonalTimes
@@ -99,7 +98,7 @@ unit-none n old z stored e =
     }
 
 pub unit-inside : {n k : ℕ} {z : List Float} → UnitTo n k z → k < n → n ≤ limit → (k * n + k < length z) × (length z ≤ limit * limit)
-unit-inside {n} {k} {z} r h small = omega (arith, square-inside n k k h h, product-small n n small small)
+unit-inside {n} {k} {z} r h small = omega (arith, square-inside n k k h h, square-small n small)
 
 pub unit-more : {n k : ℕ} {z : List Float} → UnitTo n k z → k < n → UnitTo n (k + 1) (set z (k * n + k) one)
 unit-more {n} {k} {z} r h =

@@ -1,4 +1,4 @@
--- The loops that build the matrix anew: before the first turn, at a turn, after the last.
+-- The loops that build the matrix anew: before the first pass, at a pass, after the last.
 use Prim.Native.Nat.{ℕ, _+_, _-_, _*_, _<_, _≤_}
 use native.Mathlib.Omega.{arith}
 use native.Mathlib.Nat.{mul-le-mul, add-mul}
@@ -14,14 +14,14 @@ use lib.Seq.{getD-drop, getD-take}
 use Rattle.rules.specs.Limits.{limit}
 use Rattle.rules.specs.Arithmetic.{_+ᶠ_, _*ᶠ_, +0, at, each, tabulate}
 use Rattle.rules.specs.Matrices.{triangle}
-use Rattle.rules.specs.Jacobi.{packed, inPacked, inSquare, packedPlace}
+use Rattle.rules.specs.Jacobi.{packed, inPacked, inSquare}
 use Rattle.rules.specs.Projections.{rebuiltEntry}
 use Rattle.rules.proofs.Arithmetic.{Reached, reached-all, each-length, each-at}
-use Rattle.rules.proofs.Columns.{by-less, by-same, tabulate-is, packed-self, packed-same, packed-is, packed-at, packed-set, packedPlace-le, inPacked-at, inSquare-place}
+use Rattle.rules.proofs.Columns.{by-less, by-same, tabulate-is, packed-self, packed-same, packed-is, packed-at, packed-set, inPacked-at, inSquare-place}
 use Rattle.rules.proofs.Triangle.{triangle-inside}
-use Rattle.eig.specs.Sizes.{IsPacked}
-use Rattle.eig.specs.Turns.{added, plusColumn, plusRank1}
-use Rattle.eig.proofs.Small.{product-small}
+use Rattle.jacobi.specs.Sizes.{IsPacked}
+use Rattle.eig.specs.Parts.{added, plusColumn, plusRank1}
+use Rattle.rules.proofs.Matrices.{square-small}
 
 -- an entry of a list that is known by its entries
 pub entry-of : (n : ℕ) (f : ℕ → ℕ → Float) (x : List Float) → x ≡ packed n f → (r c : ℕ) → r ≤ c → c < n → inPacked n x r c ≡ f r c
@@ -56,15 +56,14 @@ column-elsewhere e z c k x p q apart =
     (λ l. rw (le-ltb p k l, le-ltb p (k + 1) (by-less k p (λ m. omega arith) (λ m. absurd (apart (omega arith) s))))))
     (λ n. rw (ne-eqb q c n))
 
-pub column-more : {e : Float} {z : List Float} {c k p : ℕ} {x x' : List Float} → ColumnTo e z c k x x' → k ≤ c → c < length z → p ≡ packedPlace k c → ColumnTo e z c (k + 1) x (set x' p (e *ᶠ at z k *ᶠ at z c +ᶠ at x' p))
+pub column-more : {e : Float} {z : List Float} {c k p : ℕ} {x x' : List Float} → ColumnTo e z c k x x' → k ≤ c → c < length z → p ≡ triangle c + k → ColumnTo e z c (k + 1) x (set x' p (e *ᶠ at z k *ᶠ at z c +ᶠ at x' p))
 column-more {e} {z} {c} {k} {p} {x} {x'} r h hc is-p =
-    let place-is : p ≡ triangle c + k = is-p ∙ packedPlace-le k c h in
     let held : at x' (triangle c + k) ≡ inPacked (length z) x k c =
     ap (λ (l : List Float). at l (triangle c + k)) (r .is) ∙ packed-at (length z) (columnTo e z c k x) k c h hc ∙ rw (eq-eqb c c refl, le-ltb k k (omega arith)) in
     let new : columnTo e z c (k + 1) x k c ≡ e *ᶠ at z k *ᶠ at z c +ᶠ at x' (triangle c + k) = rw (held, eq-eqb c c refl, lt-ltb k (k + 1) (omega arith)) in
     let stored : set x' (triangle c + k) (e *ᶠ at z k *ᶠ at z c +ᶠ at x' (triangle c + k)) ≡ packed (length z) (columnTo e z c (k + 1) x) =
     packed-set (columnTo e z c (k + 1) x) k c (e *ᶠ at z k *ᶠ at z c +ᶠ at x' (triangle c + k)) (r .is) h hc new (λ p q hp hq apart. column-elsewhere e z c k x p q apart) in
-    record { is = rw place-is stored; same = length-set x' p (e *ᶠ at z k *ᶠ at z c +ᶠ at x' p) ∙ r .same; within = omega arith }
+    record { is = rw is-p stored; same = length-set x' p (e *ᶠ at z k *ᶠ at z c +ᶠ at x' p) ∙ r .same; within = omega arith }
 
 pub column-all : {e : Float} {z : List Float} {c k : ℕ} {x x' : List Float} → ColumnTo e z c k x x' → c + 1 ≤ k → x' ≡ plusColumn e z c x
 unfolding plusColumn
@@ -172,7 +171,7 @@ module _ (n : ℕ) (work : List Float) (k : ℕ) (room : n + n * n ≤ length wo
       omega (arith, l, add-mul k 1 n)
 
   pub lent-inside : n ≤ limit → (n + k * n + n ≤ length work) × (n + k * n + n ≤ limit + limit * limit)
-  lent-inside small = omega (arith, fits, product-small n n small small)
+  lent-inside small = omega (arith, fits, square-small n small)
 
   pub lent-length : length (lent n work k) ≡ n
   unfolding lent

@@ -1,3 +1,2 @@
 -- What the private functions of this crate owe each other.
-pub mod Sizes
-pub mod Turns
+pub mod Parts

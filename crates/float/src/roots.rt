@@ -30,7 +30,7 @@ pub fn root(x: f64) -> f64
     }
 }
 
-// The root of a normal number, by its pattern b. What is returned does not turn on x, by which the guess is made.
+// The root of a normal number, by its pattern b. What is returned does not rest on x, by which the guess is made.
 fn root_of_normal(x: f64, b: u64) -> f64
     requires { ⌜ (2 ^ 52 ≤ b) × (b < 2047 * 2 ^ 52) ⌝ }
     ensures { λ r. ⌜ r ≡ rules.root binary64 (ofBits binary64 b) ⌝ }

@@ -41,7 +41,10 @@ pub fn scale(alpha: f64, x: &mut [f64])
 
 // y becomes y + alpha * x.
 pub fn add(alpha: f64, x: &[f64], y: &mut [f64]) -> bool
-    ensures { λ r. ⌜ Outcome (sameLength (now (x .entry)) (now (y .entry))) (added alpha (now (x .entry)) (now (y .entry))) (now (y .entry)) r (now (y .exit)) ⌝ }
+    ensures { λ r. ⌜
+        Outcome (sameLength (now (x .entry)) (now (y .entry))) (added alpha (now (x .entry)) (now (y .entry)))
+        (now (y .entry)) r (now (y .exit))
+        ⌝ }
 {
     if y.len() != x.len() {
         return false;
@@ -81,7 +84,11 @@ pub fn abssum(x: &[f64], incx: usize) -> f64
 
 // y becomes alpha * mat * x + beta * y, where mat is the diagonal of a matrix.
 pub fn transform_di(alpha: f64, mat: &[f64], x: &[f64], beta: f64, y: &mut [f64]) -> bool
-    ensures { λ r. ⌜ Outcome (sameLength (now (mat .entry)) (now (y .entry)) && sameLength (now (x .entry)) (now (y .entry))) (transformedDi alpha (now (mat .entry)) (now (x .entry)) beta (now (y .entry))) (now (y .entry)) r (now (y .exit)) ⌝ }
+    ensures { λ r. ⌜
+        Outcome (sameLength (now (mat .entry)) (now (y .entry)) && sameLength (now (x .entry)) (now (y .entry)))
+        (transformedDi alpha (now (mat .entry)) (now (x .entry)) beta (now (y .entry))) (now (y .entry)) r
+        (now (y .exit))
+        ⌝ }
 {
     if mat.len() != y.len() {
         return false;

@@ -1,2 +1,1 @@
 pub mod Operator
-pub mod Packed

@@ -1,4 +1,4 @@
--- Laws of a matrix as an operator: an empty one only scales, and a packed one turned over is the same.
+-- Laws of a matrix as an operator: an empty one only scales, and a packed one transposed is the same.
 use mathlib.Core.Path.{_≡_}
 use mathlib.Core.Bool.{Bool, true, false}
 use mathlib.Core.List.{List}
@@ -9,8 +9,8 @@ use Rattle.rules.specs.declared.Rows.{Rows}
 use Rattle.rules.specs.Outcome.{Outcome}
 use Rattle.rules.specs.Vectors.{scaled}
 use Rattle.rules.specs.Matrices.{entry, entries, isEmpty, transformFits, transformed}
-use Rattle.rules.proofs.Matrices.{packed-turned, packed-fits, transformed-same}
-use Rattle.matop.specs.Columns.{operated}
+use Rattle.rules.proofs.Matrices.{packed-transposed, packed-fits, transformed-same}
+use Rattle.matop.specs.Operated.{operated}
 
 module _ (transpose : Bool) (alpha : Float) (mat x : List Float) (beta : Float) (y : List Float) where
   pub scales-if-empty : (t : MatType) → isEmpty t ≡ true → scaled beta y ≡ operated transpose t alpha mat x beta y
@@ -24,4 +24,4 @@ module _ (transpose : Bool) (alpha : Float) (mat x : List Float) (beta : Float) 
 
     pub transforms-packed : (rows : Rows) → isEmpty (SymPack rows) ≡ false → Outcome (transformFits false (SymPack rows) mat x y) (transformed alpha (entry (SymPack rows) mat) x beta y) y answer after → Outcome (transformFits transpose (SymPack rows) mat x y) (operated transpose (SymPack rows) alpha mat x beta y) y answer after
     transforms-packed rows e o =
-        transforms (SymPack rows) e (rw (packed-fits transpose rows mat x y, transformed-same alpha (entries transpose (SymPack rows) mat) (entry (SymPack rows) mat) x beta y (packed-turned transpose rows mat)) o)
+        transforms (SymPack rows) e (rw (packed-fits transpose rows mat x y, transformed-same alpha (entries transpose (SymPack rows) mat) (entry (SymPack rows) mat) x beta y (packed-transposed transpose rows mat)) o)

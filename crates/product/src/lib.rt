@@ -1,22 +1,20 @@
-// A list of blocks: each has its part of the lent slice, in list order.
-use cone::is_within;
+// The projection of a list of blocks: each has its part of the lent slice, in list order.
 use cone::proj;
-use cone::sweeps_fit;
-use rules::Cone;
-use rules::PLACES;
+use rules::MOST_PLACES;
 use rules::Product;
 use rules::Projection;
 use rules::SolverParam;
 use rules::Word;
 use words::cone_work_len;
 use words::is_bad_cone;
+use words::is_within;
 use words::places_of;
 use words::read_word;
+use words::sweeps_fit;
 ghost use mathlib.Core.Path.{_≡_};
 ghost use mathlib.Core.Bool.{true};
-ghost use Rattle.rules.specs.Outcome.{Outcome};
 ghost use Rattle.rules.specs.Blocks.{blocksOf};
-ghost use Rattle.rules.specs.Product.{projAll, grouped, isGrouped, groupBlock, groupAll, blocksWithin, sumsFit, listFits, lengthsFit, productFits, ProductOutcome};
+ghost use Rattle.rules.specs.Product.{projAll, blocksWithin, sumsFit, lengthsFit, productFits, ProductOutcome};
 
 // Whether no block is above the limit.
 fn blocks_within(words: &[u16]) -> bool
@@ -33,7 +31,7 @@ fn blocks_within(words: &[u16]) -> bool
 }
 
 // Whether a list is good for that many places, with no block above the limit.
-fn list_fits(words: &[u16], len: usize) -> bool
+pub fn list_fits(words: &[u16], len: usize) -> bool
     ensures { λ r. ⌜ r ≡ sumsFit (now (words .entry)) len ⌝ }
 {
     if is_bad_cone(words, len) {
@@ -43,7 +41,7 @@ fn list_fits(words: &[u16], len: usize) -> bool
 }
 
 // Whether the list, its places, cone work and the sweep limit fit.
-fn product_fits(par: SolverParam, words: &[u16], len: usize, work: usize) -> bool
+pub fn product_fits(par: SolverParam, words: &[u16], len: usize, work: usize) -> bool
     ensures { λ r. ⌜ r ≡ lengthsFit par (now (words .entry)) len work ⌝ }
 {
     if !list_fits(words, len) {
@@ -52,7 +50,7 @@ fn product_fits(par: SolverParam, words: &[u16], len: usize, work: usize) -> boo
     if work < cone_work_len(words) {
         return false;
     }
-    if PLACES < len {
+    if MOST_PLACES < len {
         return false;
     }
     sweeps_fit(par)
@@ -61,7 +59,11 @@ fn product_fits(par: SolverParam, words: &[u16], len: usize, work: usize) -> boo
 // Projects the blocks of a list that fits.
 fn proj_all(par: SolverParam, dual: bool, words: &[u16], x: &mut [f64], work: &mut [f64]) -> Product
     requires { ⌜ productFits par (now words) (now x) (now work) ≡ true ⌝ }
-    ensures { λ r. ⌜ ProductOutcome true (projAll par dual (blocksOf (now (words .entry))) (now (x .entry)) (now (work .entry))) (now (x .entry)) (now (work .entry)) r (now (x .exit)) (now (work .exit)) ⌝ }
+    ensures { λ r. ⌜
+        ProductOutcome true
+        (projAll par dual (blocksOf (now (words .entry))) (now (x .entry)) (now (work .entry))) (now (x .entry))
+        (now (work .entry)) r (now (x .exit)) (now (work .exit))
+        ⌝ }
 {
     let mut start: usize = 0;
     let mut rotations: u64 = 0;
@@ -100,77 +102,14 @@ pub fn product_proj(
     x: &mut [f64],
     work: &mut [f64],
 ) -> Product
-    ensures { λ r. ⌜ ProductOutcome (productFits par (now (words .entry)) (now (x .entry)) (now (work .entry))) (projAll par dual (blocksOf (now (words .entry))) (now (x .entry)) (now (work .entry))) (now (x .entry)) (now (work .entry)) r (now (x .exit)) (now (work .exit)) ⌝ }
+    ensures { λ r. ⌜
+        ProductOutcome (productFits par (now (words .entry)) (now (x .entry)) (now (work .entry)))
+        (projAll par dual (blocksOf (now (words .entry))) (now (x .entry)) (now (work .entry))) (now (x .entry))
+        (now (work .entry)) r (now (x .exit)) (now (work .exit))
+        ⌝ }
 {
     if !product_fits(par, words, x.len(), work.len()) {
         return Product::No;
     }
     proj_all(par, dual, words, x, work)
-}
-
-// Every place becomes the smallest of all.
-fn group(t: &mut [f64])
-    ensures { λ _. ⌜ now (t .exit) ≡ grouped (now (t .entry)) ⌝ }
-{
-    if 0 < t.len() {
-        let mut smallest = t[0];
-        for k in 0..t.len() {
-            smallest = float::smaller(smallest, t[k]);
-        }
-        for k in 0..t.len() {
-            t[k] = smallest;
-        }
-    }
-}
-
-// Whether a block's places go together: those of second-order, rotated and semidefinite cones.
-fn is_grouped(cone: Cone) -> bool
-    ensures { λ r. ⌜ r ≡ isGrouped cone ⌝ }
-{
-    match cone {
-        Cone::Zero(_) => false,
-        Cone::RPos(_) => false,
-        Cone::SOC(_) => true,
-        Cone::RotSOC(_) => true,
-        Cone::PSD(_) => true,
-    }
-}
-
-// Groups a block, if its places go together.
-fn group_block(cone: Cone, t: &mut [f64])
-    ensures { λ _. ⌜ now (t .exit) ≡ groupBlock cone (now (t .entry)) ⌝ }
-{
-    if is_grouped(cone) {
-        group(t);
-    }
-}
-
-// Groups the blocks of a list that fits.
-fn group_all(words: &[u16], xs: &mut [f64])
-    requires { ⌜ listFits (now words) (now xs) ≡ true ⌝ }
-    ensures { λ _. ⌜ now (xs .exit) ≡ groupAll (blocksOf (now (words .entry))) (now (xs .entry)) ⌝ }
-{
-    let mut start: usize = 0;
-    for i in 0..words.len() {
-        match read_word(words[i]) {
-            // no list that fits has one
-            Word::Bad => return,
-            Word::Block(block) => {
-                let end = start + places_of(block);
-                group_block(block, &mut xs[start..end]);
-                start = end;
-            }
-        }
-    }
-}
-
-// Gives each block of the kinds that go together its smallest value. Where the list doesn't fit, it answers no and changes nothing.
-pub fn product_group(words: &[u16], xs: &mut [f64]) -> bool
-    ensures { λ r. ⌜ Outcome (listFits (now (words .entry)) (now (xs .entry))) (groupAll (blocksOf (now (words .entry))) (now (xs .entry))) (now (xs .entry)) r (now (xs .exit)) ⌝ }
-{
-    if !list_fits(words, xs.len()) {
-        return false;
-    }
-    group_all(words, xs);
-    true
 }

@@ -5,11 +5,11 @@ use native.Mathlib.Omega.{arith}
 use mathlib.Core.Path.{_≡_, refl, _∙_}
 use mathlib.Core.Bool.{Bool, true, false, _&&_}
 use mathlib.Core.List.{List}
-use lib.Dec.{eqb}
+use lib.Dec.{eqb, leb}
 use lib.Ieee.{Float, nan, binary64, toBits}
 use lib.ListN.{length, getD, take, drop, set, length-set, drop-of-length-le}
 use lib.Seq.{drop-cons, getD-set-same, getD-set-other}
-use borrow.Author.Tests.{lt-ltb, le-ltb, lt-leb, le-leb, eqb-true, eqb-false}
+use borrow.Author.Tests.{lt-ltb, le-ltb, lt-leb, le-leb, leb-true, eqb-true, eqb-false}
 use Rattle.rules.specs.Arithmetic.{at}
 use Rattle.patterns.specs.Words.{wordAt}
 use Rattle.replay.specs.Records.{wordOf, stands, standFrom, allHave, standBefore, coneWord, ConeWords}
@@ -53,6 +53,15 @@ before-not bytes from xs n pattern h e = rw (le-leb n (length xs) h, e)
 pub before-then : (bytes : List ℕ) (from : ℕ) (xs : List Float) (n pattern : ℕ) → n ≤ length xs → standFrom bytes from (take n xs) ≡ true → allHave pattern (drop n xs) ≡ standBefore bytes from xs n pattern
 unfolding standBefore
 before-then bytes from xs n pattern h e = rw (le-leb n (length xs) h, e)
+
+-- as many numbers as are compared are there
+pub before-fits : (bytes : List ℕ) (from : ℕ) (xs : List Float) (n pattern : ℕ) → standBefore bytes from xs n pattern ≡ true → n ≤ length xs
+unfolding standBefore
+before-fits bytes from xs n pattern e = go (leb n (length xs)) refl
+  where
+    go : (t : Bool) → leb n (length xs) ≡ t → n ≤ length xs
+    go true l = leb-true n (length xs) l
+    go false l = let z : false ≡ true = rw l at e in let y : _≡_ {A = ℕ} 0 1 = cc in absurd (omega arith)
 
 -- cone words: before the first turn, at a turn
 pub cone-none : (bytes : List ℕ) (from : ℕ) (ws : List ℕ) → ConeWords bytes from 0 ws ws

@@ -15,7 +15,7 @@ fn answer_one() -> bool {
 
 // Goes on after the length.
 fn answer_rest(length: u64) -> bool {
-    let mut card = [0u8; card::ENOUGH];
+    let mut card = [0u8; card_file::ENOUGH];
     let count = card_file::read_front(STDIN_FILENO, length as usize, &mut card);
     if count as u64 != length {
         return false;

@@ -2,13 +2,11 @@
 // of records and then the records, as compare/README.md says. Each answer is had again from this
 // repository's routines and held to the list. Then come the cases of cones worked by hand.
 mod operations;
-mod room;
-mod semidefinite;
 
 use libc::STDOUT_FILENO;
 use operations::Found;
 use replay::lines;
-use replay::tally;
+use replay_semidefinite::semidefinite;
 
 // One more than the largest number of an operation.
 const OPERATIONS: usize = 8;

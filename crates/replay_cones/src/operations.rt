@@ -1,13 +1,13 @@
 // The operations of the list, by their numbers: whether a record's answer is this repository's too.
 // Each routine is then asked again with one place too many, or too few, and has to turn that down
 // and leave everything as it is.
-use crate::room;
-use crate::semidefinite;
 use replay::record;
+use replay::room;
+use replay_semidefinite::semidefinite;
 use rules::Cone;
+use rules::MOST_WORDS;
 use rules::Product;
 use rules::SolverParam;
-use rules::WORDS;
 ghost use Prim.Native.Nat.{_≤_};
 
 pub enum Found {
@@ -90,7 +90,7 @@ fn product(record: &[u8]) -> bool {
         return false;
     }
     let blocks = record::size(record, 4);
-    if blocks > WORDS {
+    if blocks > MOST_WORDS {
         return false;
     }
     let places = record::size(record, 5);
@@ -104,7 +104,7 @@ fn product(record: &[u8]) -> bool {
 fn projects_list(dual: bool, list: &[u16], record: &[u8], places: usize) -> bool
     requires { ⌜ places ≤ 639 ⌝ }
 {
-    if list.len() > WORDS {
+    if list.len() > MOST_WORDS {
         return false;
     }
     let x_at = list.len() + 6;
@@ -217,7 +217,7 @@ fn is_no(answer: Product) -> bool {
 // A list of blocks, grouped.
 fn grouping(record: &[u8]) -> bool {
     let blocks = record::size(record, 0);
-    if blocks > WORDS {
+    if blocks > MOST_WORDS {
         return false;
     }
     let places = record::size(record, 1);
@@ -243,9 +243,9 @@ fn groups_and_not(list: &[u16], xs: &mut [f64], places: usize) -> bool {
     if xs.len() <= places {
         return false;
     }
-    if !product::product_group(list, &mut xs[0..places]) {
+    if !grouping::product_group(list, &mut xs[0..places]) {
         return false;
     }
     let longer = places + 1;
-    !product::product_group(list, &mut xs[0..longer])
+    !grouping::product_group(list, &mut xs[0..longer])
 }

@@ -2,13 +2,10 @@
 // input holds the number of records and then the records, as compare/README.md says. Each answer is
 // had again from this repository's routines and held to the list.
 mod operations;
-mod room;
-mod routines;
 
 use libc::STDOUT_FILENO;
 use operations::Found;
 use replay::lines;
-use replay::tally;
 
 // One more than the largest number of an operation.
 const OPERATIONS: usize = 24;

@@ -1,8 +1,8 @@
 // The operations of the list, by their numbers: whether a record's answer is this repository's too.
-use crate::room;
-use crate::routines;
-use crate::routines::Routine;
 use replay::record;
+use replay::room;
+use replay_routines::routines;
+use replay_routines::routines::Routine;
 use rules::Cols;
 use rules::MatType;
 use rules::Rows;
@@ -123,7 +123,7 @@ fn transform_sp(record: &[u8]) -> bool {
 }
 
 // The operations whose sizes are a flag, rows and columns. For 8 the flag says whether the matrix is
-// turned over, for the others whether it is packed.
+// transposed, for the others whether it is packed.
 fn matrix(operation: u64, record: &[u8]) -> bool {
     let flag = record::word(record, 0);
     if flag > 1 {

@@ -1,7 +1,6 @@
 // The runs worked by hand in document 01 that are left to a program.
-use crate::answers;
-use crate::room;
 use libc::STDOUT_FILENO;
+use replay_problems::room;
 use rules::Cols;
 use rules::Rows;
 use rules::SolverParam;
@@ -41,7 +40,7 @@ fn of_zeros(m: usize, n: usize, c: usize, a: usize, work: usize, word: u16) -> u
         &mut cone_work,
     );
     let ending = answer.ending;
-    answers::number_of(ending)
+    replay_answers::number_of(ending)
 }
 
 fn write_case(holds: bool) -> bool {

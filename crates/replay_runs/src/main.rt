@@ -1,16 +1,13 @@
 // Replays whole problems: standard input holds the number of records and then the records, as
 // compare/README.md says. Each problem is run by solver::solve, and its answer and all of both buffers
 // are held to the list. Then come the runs worked by hand.
-mod answers;
 mod cases;
-mod room;
-mod runs;
 
 use libc::STDOUT_FILENO;
 use replay::lines;
-use replay::tally;
-use room::A_ROOM;
-use runs::Found;
+use replay_problems::room::A_ROOM;
+use replay_problems::runs;
+use replay_problems::runs::Found;
 
 // The longest record of the list has 4,307 words.
 const MOST_WORDS: u64 = 5000;

@@ -4,17 +4,16 @@ use mathlib.Core.Path.{_≡_, refl}
 use mathlib.Core.Bool.{Bool, true, false, not, _&&_, _||_, true≢false, false≢true}
 use borrow.Author.Tests.{ltb-false, leb-true, eqb-true, not-false}
 use lib.Dec.{leb, ltb, eqb}
-use lib.Ieee.{lt}
 use lib.ListN.{length}
 use Rattle.rules.specs.declared.SolverParam.{SolverParam}
 use Rattle.rules.specs.Limits.{limit, mostWords, mostSteps, mostSweeps}
-use Rattle.rules.specs.Arithmetic.{+0}
 use Rattle.rules.specs.Matrices.{storedLength}
 use Rattle.rules.specs.Blocks.{hasBadWord, totalPlaces, isBadCone}
 use Rattle.rules.specs.Projections.{sweepsFit}
 use Rattle.rules.specs.Product.{coneWork}
 use Rattle.rules.specs.Problem.{Problem, matrix, blocks, workLength}
-use Rattle.rules.specs.Refusals.{isFinite, isPacked, badParam, tooLarge, invalidOp, badCone, workShortage, accepted, refusal, readProblem}
+use Rattle.rules.specs.declared.Refusal.the-variants.{Accepted}
+use Rattle.rules.specs.Refusals.{isPacked, badTolerance, badParam, tooLarge, invalidOp, badCone, workShortage, refusal, readProblem}
 use Rattle.rules.proofs.Refusals.{none-holds}
 use Rattle.rules.proofs.Lengths.{Fitting}
 
@@ -40,8 +39,8 @@ record ParamFits (par : SolverParam) : Type 0 where
 param-fits : (par : SolverParam) → badParam par ≡ false → ParamFits par
 unfolding badParam
 param-fits par e =
-    let f = neither (not (isFinite (par .«eps_acc»)) || not (isFinite (par .«eps_inf»)) || not (isFinite (par .«eps_zero»)) || lt (par .«eps_zero») +0 || ltb mostSteps (par .«max_iter»)) (not (sweepsFit par)) e in
-    let g = neither (not (isFinite (par .«eps_acc»)) || not (isFinite (par .«eps_inf»)) || not (isFinite (par .«eps_zero»)) || lt (par .«eps_zero») +0) (ltb mostSteps (par .«max_iter»)) (f .0) in
+    let f = neither (badTolerance par || ltb mostSteps (par .«max_iter»)) (not (sweepsFit par)) e in
+    let g = neither (badTolerance par) (ltb mostSteps (par .«max_iter»)) (f .0) in
     let s = both (leb 1 (par .«sweep_limit»)) (leb (par .«sweep_limit») mostSweeps) (not-false (sweepsFit par) (f .1)) in
     record {
       steps = ltb-false mostSteps (par .«max_iter») (g .1);
@@ -57,8 +56,8 @@ record SizesFit (p : Problem) : Type 0 where
 sizes-fit : (p : Problem) → tooLarge p ≡ false → SizesFit p
 unfolding tooLarge
 sizes-fit p e =
-    let f = neither (ltb limit (p .n) || ltb limit (p .m)) (ltb mostWords (length (p .words))) e in
-    let g = neither (ltb limit (p .n)) (ltb limit (p .m)) (f .0) in
+    let f = neither _ _ e in
+    let g = neither _ _ (f .0) in
     record { n = ltb-false limit (p .n) (g .0); m = ltb-false limit (p .m) (g .1); words = ltb-false mostWords (length (p .words)) (f .1) }
 
 record LengthsFit (p : Problem) : Type 0 where
@@ -106,7 +105,7 @@ buffers-fit p work cone e =
 
 -- ---- all of them
 
-pub record Accepted (p : Problem) (work cone : ℕ) : Type 0 where
+pub record AllFits (p : Problem) (work cone : ℕ) : Type 0 where
   pub fitting : Fitting p
   pub square : isPacked (p .storage) ≡ true → p .m ≡ p .n
   pub no-bad-word : hasBadWord (p .words) ≡ false
@@ -119,7 +118,7 @@ pub record Accepted (p : Problem) (work cone : ℕ) : Type 0 where
   pub long-work : workLength (p .m) (p .n) ≤ work
   pub long-cone : coneWork (blocks p) ≤ cone
 
-pub accepted-fits : (p : Problem) (work cone : ℕ) → refusal p work cone ≡ accepted → Accepted p work cone
+pub accepted-fits : (p : Problem) (work cone : ℕ) → refusal p work cone ≡ Accepted → AllFits p work cone
 accepted-fits p work cone e =
     let none = none-holds p work cone e in
     let par = param-fits (p .par) (none 1) in
@@ -142,6 +141,20 @@ accepted-fits p work cone e =
     }
 
 -- the problem as the run reads it has the same sizes
-pub read-fits : (p : Problem) → Fitting p → Fitting (readProblem p)
+pub accepted-as-read : (p : Problem) (work cone : ℕ) → refusal p work cone ≡ Accepted → AllFits (readProblem p) work cone
 unfolding readProblem
-read-fits p f = record { c = f .c; a = f .a; b = f .b; blocks = f .blocks }
+accepted-as-read p work cone e =
+    let f = accepted-fits p work cone e in
+    record {
+      fitting = record { c = f .fitting .c; a = f .fitting .a; b = f .fitting .b; blocks = f .fitting .blocks };
+      square = f .square;
+      no-bad-word = f .no-bad-word;
+      n-within = f .n-within;
+      m-within = f .m-within;
+      words-within = f .words-within;
+      steps-within = f .steps-within;
+      some-sweep = f .some-sweep;
+      sweeps-within = f .sweeps-within;
+      long-work = f .long-work;
+      long-cone = f .long-cone;
+    }

@@ -12,8 +12,8 @@ use lib.Ieee.{Float, nan}
 use lib.ListN.{length, set, length-append, length-set, List·getD-append}
 use lib.Seq.{ext-getD, getD-append-add, getD-set-same, getD-set-other}
 use Rattle.rules.specs.Arithmetic.{at, tabulate, byColumns}
-use Rattle.rules.specs.Matrices.{triangle, place, entry}
-use Rattle.rules.specs.Jacobi.{packed, square, inPacked, inSquare, packedPlace}
+use Rattle.rules.specs.Matrices.{triangle, packedPlace, place, entry}
+use Rattle.rules.specs.Jacobi.{packed, square, inPacked, inSquare}
 use Rattle.rules.proofs.Triangle.{triangle-more, triangle-inside}
 
 -- ---- two cases
@@ -203,7 +203,7 @@ packedPlace-apart r c p q e =
 -- ---- a list by its own entries, and one store
 
 pub inPacked-place : (n : ℕ) (x : List Float) (r c : ℕ) → inPacked n x r c ≡ at x (packedPlace r c)
-unfolding entry place packedPlace
+unfolding entry place
 inPacked-place n x r c = refl
 
 pub inSquare-place : (n : ℕ) (z : List Float) (r c : ℕ) → inSquare n z r c ≡ at z (c * n + r)

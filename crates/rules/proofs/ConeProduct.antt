@@ -18,7 +18,7 @@ use Rattle.rules.specs.declared.Projection.the-variants.{Done, Failed, N
 use Rattle.rules.specs.declared.Projection.{Projection}
 use Rattle.rules.specs.declared.Product.the-variants.{Done as ProductDone, Failed as ProductFailed}
 use Rattle.rules.specs.declared.SolverParam.{SolverParam}
-use Rattle.rules.specs.Limits.{limit, mostPlaces}
+use Rattle.rules.specs.Limits.{limit, mostSweeps, mostPlaces}
 use Rattle.rules.specs.Arithmetic.{at, each}
 use Rattle.rules.specs.Helpers.{smaller}
 use Rattle.rules.specs.Blocks.{readWord, blocksOf, places, hasBadWord, totalPlaces, isBadCone}
@@ -209,9 +209,9 @@ pairs-in-places (PSD (suc n)) =
     let less : suc n - 1 ≤ suc n = omega arith in
     omega (arith, mul-le-mul same less, twice-triangle (suc n))
 
-pub block-rotations : (par : SolverParam) (dual : Bool) (b : Cone) (x work : List Float) → sweepsFit par ≡ true → (projBlock par dual b x work) .rotations ≤ 64 * places b
+pub block-rotations : (par : SolverParam) (dual : Bool) (b : Cone) (x work : List Float) → sweepsFit par ≡ true → (projBlock par dual b x work) .rotations ≤ mostSweeps * places b
 block-rotations par dual b x work e =
-    omega (arith, block-bounded par dual b x work, mul-le-mul (leb-true (par .«sweep_limit») 64 (both (leb 1 (par .«sweep_limit»)) (leb (par .«sweep_limit») 64) e .1)) (pairs-in-places b))
+    omega (arith, block-bounded par dual b x work, mul-le-mul (leb-true (par .«sweep_limit») mostSweeps (both (leb 1 (par .«sweep_limit»)) (leb (par .«sweep_limit») mostSweeps) e .1)) (pairs-in-places b))
 
 -- ---- projecting
 
@@ -283,7 +283,7 @@ pub record Projecting (par : SolverParam) (dual : Bool) (words : List ℕ) (x₀
   pub same : length x ≡ length x₀
   pub same-work : length work ≡ length work₀
   pub enough : coneWork (blocksOf (drop i words)) ≤ length work
-  pub few : q ≤ 64 * a
+  pub few : q ≤ mostSweeps * a
   pub counted : n ≤ i
   pub whole : continued (take a x) q n (projAll par dual (blocksOf (drop i words)) (drop a x) work) ≡ projAll par dual (blocksOf words) x₀ work₀
 
@@ -334,17 +334,17 @@ module _ {par : SolverParam} {dual : Bool} {words : List ℕ} {x₀ work₀ : Li
       pub projecting-some : answer ≡ No → ⊥
       projecting-some is = answer-some (projBlock par dual b (take k (drop a x)) work) (sym is ∙ answered)
 
-      few-more : (r : ℕ) → (projBlock par dual b (take k (drop a x)) work) .rotations ≡ r → q + r ≤ 64 * (a + k)
+      few-more : (r : ℕ) → (projBlock par dual b (take k (drop a x)) work) .rotations ≡ r → q + r ≤ mostSweeps * (a + k)
       few-more r is = omega (arith, block-rotations par dual b (take k (drop a x)) work (g .swept), g .few)
 
       -- the sum of rotations fits 64 bits
-      fits-more : (r : ℕ) → (projBlock par dual b (take k (drop a x)) work) .rotations ≡ r → q + r ≤ 18446744073709551552
+      fits-more : (r : ℕ) → (projBlock par dual b (take k (drop a x)) work) .rotations ≡ r → q + r ≤ mostSweeps * mostPlaces
       fits-more r is = omega (arith, few-more r is, inside, g .same, g .countable)
 
-      pub projecting-counts : (r : ℕ) → answer ≡ Done r → q + r ≤ 18446744073709551552
+      pub projecting-counts : (r : ℕ) → answer ≡ Done r → q + r ≤ mostSweeps * mostPlaces
       projecting-counts r is = fits-more r (answer-done (projBlock par dual b (take k (drop a x)) work) r (sym is ∙ answered) .1)
 
-      pub projecting-counts-failed : (r : ℕ) → answer ≡ Failed r → q + r ≤ 18446744073709551552
+      pub projecting-counts-failed : (r : ℕ) → answer ≡ Failed r → q + r ≤ mostSweeps * mostPlaces
       projecting-counts-failed r is = fits-more r (answer-failed (projBlock par dual b (take k (drop a x)) work) r (sym is ∙ answered) .1)
 
       pub projecting-more : (r : ℕ) → answer ≡ Done r → length y ≡ length (take k (drop a x)) → length w ≡ length work → (end : ℕ) → end ≡ a + k

@@ -1,5 +1,5 @@
 -- The owner's demands hold of the rules: each statement of `specs/Demands.antt`, with its proof's place.
-use Prim.Native.Nat.{ℕ}
+use Prim.Native.Nat.{ℕ, _+_}
 use mathlib.Core.Path.{_≡_}
 use mathlib.Core.List.{List}
 use lib.Ieee.{Float}
@@ -7,24 +7,32 @@ use lib.ListN.{length}
 use Rattle.rules.specs.declared.Answer.{Answer}
 use Rattle.rules.specs.Product.{Failure}
 use Rattle.rules.specs.Problem.{Problem}
-use Rattle.rules.specs.Criteria.{Criteria}
-use Rattle.rules.specs.Run.{Ended, run, leftBy}
-use Rattle.rules.specs.Refusals.{accepted, refusal, readProblem, solved, SolveOutcome}
-use Rattle.rules.specs.Demands.{TurnedAwayExactly, EndsFirst, GoesOnExactly, ConvergedExactly, RotationsBounded, OldContentsChangeNothing, PlacesBeyondKept}
+use Rattle.rules.specs.Step.{State}
+use Rattle.rules.specs.declared.Norms.{Norms}
+use Rattle.rules.specs.declared.Criteria.{Criteria}
+use Rattle.rules.specs.Run.{pieceFrom, takenUp, Ended, run, leftBy}
+use Rattle.rules.specs.declared.Refusal.the-variants.{Accepted}
+use Rattle.rules.specs.Refusals.{Fact, facts, refusal, readProblem, solved, SolveOutcome}
+use Rattle.rules.specs.Demands.{NoneHolds, NumberedFrom, GivenExactly, TurnedAwayExactly, GoesByTheRules, EndsFirst, GoesOnExactly, ConvergedExactly, RotationsBounded, AnsweredByTheRules, OldContentsChangeNothing, PlacesBeyondKept}
 use Rattle.rules.proofs.Refusals as Refusals
 use Rattle.rules.proofs.Run as Run
 use Rattle.rules.proofs.Converged as Converged
 use Rattle.rules.proofs.Rotations as Rotations
 use Rattle.rules.proofs.OldContents as OldContents
+use Rattle.rules.proofs.Answered as Answered
 
 -- ---- demand 1
+
+-- "the first that applies answers, and none is given otherwise": of any table whose refusals are numbered from 1 on
+pub given-exactly : {R : Type 0} (number : R → ℕ) (rows : List (Fact R)) → NumberedFrom number 1 rows → GivenExactly number rows
+given-exactly = Refusals.given-exactly
 
 -- "A refusal has its number, is given exactly when its fact is the first in document 01 to hold, and changes no buffer."
 pub turned-away-exactly : (p : Problem) (work cone : List Float) → TurnedAwayExactly p work cone
 turned-away-exactly = Refusals.turned-away-exactly
 
 -- Where none holds, the run of the problem as read is what the solver leaves: the theorems below are about that run.
-pub accepted-runs : (p : Problem) (work cone : List Float) → refusal p (length work) (length cone) ≡ accepted → solved p work cone ≡ leftBy (readProblem p) work cone (run (readProblem p))
+pub accepted-runs : (p : Problem) (work cone : List Float) → refusal p (length work) (length cone) ≡ Accepted → solved p work cone ≡ leftBy (readProblem p) work cone (run (readProblem p))
 accepted-runs = OldContents.solved-accepted
 
 -- ---- the solver's outcome
@@ -37,11 +45,25 @@ any-two-outcomes-coincide s t = Refusals.any-two-outcomes-coincide s t
 pub places-beyond-kept : (p : Problem) (work cone : List Float) → PlacesBeyondKept p work cone
 places-beyond-kept = OldContents.places-beyond-kept
 
--- ---- demand 3, for the problem as the run reads it
+-- ---- demand 3, in one
+
+-- Where no fact of the table holds: k and its law, the ending and its row, q and its bound, and x and y as they are handed back.
+pub accepted-runs-as-demanded : (p : Problem) (work cone : List Float) (answer : Answer) (work' cone' : List Float) → SolveOutcome p work cone answer work' cone' → NoneHolds (facts p (length work) (length cone)) → AnsweredByTheRules (readProblem p) answer work' cone'
+accepted-runs-as-demanded = Answered.accepted-runs-as-demanded
+
+-- ---- demand 3, of the run, for the problem as the run reads it
 
 -- "k is the first step where a cone fails, an ending test holds or the allowance is met, never above max(max_iter, 1)."
 pub ends-first : (p : Problem) → EndsFirst p (run p)
 ends-first = Run.ends-first
+
+-- the same of a piece: at most so many steps, from any state, halt or end by the rules
+pub goes-by-the-rules : (given : ℕ) (p : Problem) (ns : Norms) (k q : ℕ) (s : State) → GoesByTheRules given p ns k q s (pieceFrom given p ns k q s)
+goes-by-the-rules = Run.goes-by-the-rules
+
+-- and however a piece is cut, its parts come to the whole
+pub pieces-join : (a b : ℕ) (p : Problem) (ns : Norms) (k q : ℕ) (s : State) → pieceFrom (a + b) p ns k q s ≡ takenUp b p ns (pieceFrom a p ns k q s)
+pieces-join = Run.pieces-join
 
 -- no other ending, count or state is allowed by that
 pub ends-first-once : {p : Problem} {d e : Ended} → EndsFirst p d → EndsFirst p e → d ≡ e
@@ -60,5 +82,5 @@ pub rotations-bounded : (p : Problem) → RotationsBounded p (run p)
 rotations-bounded = Rotations.run-bounded
 
 -- "What the buffers held before changes none of it"
-pub old-contents-change-nothing : (p : Problem) (work cone work' cone' : List Float) → refusal p (length work) (length cone) ≡ accepted → refusal p (length work') (length cone') ≡ accepted → OldContentsChangeNothing p work cone work' cone'
+pub old-contents-change-nothing : (p : Problem) (work cone work' cone' : List Float) → refusal p (length work) (length cone) ≡ Accepted → refusal p (length work') (length cone') ≡ Accepted → OldContentsChangeNothing p work cone work' cone'
 old-contents-change-nothing = OldContents.old-contents-change-nothing

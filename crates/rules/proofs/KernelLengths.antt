@@ -17,8 +17,8 @@ use Rattle.rules.specs.Arithmetic.{_*ᶠ_, +0}
 use Rattle.rules.specs.Vectors.{norm, scaled, added, shifted, transformedDi}
 use Rattle.rules.specs.Matrices.{triangle, isEmpty, transformed, opped, transOpped, absaddedCols, absaddedRows}
 use Rattle.rules.specs.Blocks.{places, totalPlaces}
-use Rattle.rules.specs.Jacobi.{Turning, Swept, isRotated, rotated, pairDone, rowDone, rowsDone, sweep, sweeps}
-use Rattle.rules.specs.Projections.{Projected, √2, projZero, projRPos, projSOC, halfTurn, projRotSOC, diagonalTimes, unit, projPSD, projBlock, blockWork}
+use Rattle.rules.specs.Jacobi.{Rotating, Swept, isRotated, rotated, pairDone, rowDone, rowsDone, sweep, sweeps, jacobi}
+use Rattle.rules.specs.Projections.{Projected, √2, projZero, projRPos, projSOC, reflected, projRotSOC, diagonalTimes, unit, projPSD, projBlock, blockWork}
 use Rattle.rules.specs.Product.{Passed, projAll, grouped, groupBlock, groupAll, coneWork}
 use Rattle.rules.specs.Prepare.{diagonal}
 use Rattle.rules.proofs.Arithmetic.{each-length}
@@ -111,53 +111,53 @@ projSOC-length (s ∷ tail) =
     either-length (le (norm tail) (neg s)) _ _ (suc (length tail)) (simp scaled-length)
     (either-length (le (norm tail) s) _ _ (suc (length tail)) refl (simp scaled-length))
 
-halfTurn-length : (x : List Float) → length (halfTurn x) ≡ length x
-unfolding halfTurn
-halfTurn-length [] = refl
-halfTurn-length (r ∷ []) = refl
-halfTurn-length (r ∷ s ∷ rest) = refl
+reflected-length : (x : List Float) → length (reflected x) ≡ length x
+unfolding reflected
+reflected-length [] = refl
+reflected-length (r ∷ []) = refl
+reflected-length (r ∷ s ∷ rest) = refl
 
 projRotSOC-length : (x : List Float) → length (projRotSOC x) ≡ length x
 unfolding projRotSOC
 projRotSOC-length [] = refl
 projRotSOC-length (r ∷ []) = refl
 projRotSOC-length (r ∷ s ∷ rest) =
-    halfTurn-length (projSOC (halfTurn (r ∷ s ∷ rest))) ∙ projSOC-length (halfTurn (r ∷ s ∷ rest)) ∙ halfTurn-length (r ∷ s ∷ rest)
+    reflected-length (projSOC (reflected (r ∷ s ∷ rest))) ∙ projSOC-length (reflected (r ∷ s ∷ rest)) ∙ reflected-length (r ∷ s ∷ rest)
 
 -- ---- Jacobi's method
 
-pub record TurningSized (n : ℕ) (m : Turning) : Type 0 where
+pub record Sized (n : ℕ) (m : Rotating) : Type 0 where
   pub matrix : length (m .matrix) ≡ triangle n
   pub vectors : length (m .vectors) ≡ n * n
 
-rotated-sized : (n i j : ℕ) (m : Turning) → TurningSized n (rotated n i j m)
+rotated-sized : (n i j : ℕ) (m : Rotating) → Sized n (rotated n i j m)
 unfolding rotated
 rotated-sized n i j m = record { matrix = packed-length n _; vectors = square-length n _ }
 
-pair-sized : (n : ℕ) (tol : Float) (i j : ℕ) (m : Turning) → TurningSized n m → TurningSized n (pairDone n tol i j m)
+pair-sized : (n : ℕ) (tol : Float) (i j : ℕ) (m : Rotating) → Sized n m → Sized n (pairDone n tol i j m)
 unfolding pairDone
 pair-sized n tol i j m h = go (isRotated n tol i j (m .matrix))
   where
-    go : (b : Bool) → TurningSized n (cond b (rotated n i j m) m)
+    go : (b : Bool) → Sized n (cond b (rotated n i j m) m)
     go true = rotated-sized n i j m
     go false = h
 
-row-sized : (n : ℕ) (tol : Float) (i k : ℕ) (m : Turning) → TurningSized n m → TurningSized n (rowDone n tol i k m)
+row-sized : (n : ℕ) (tol : Float) (i k : ℕ) (m : Rotating) → Sized n m → Sized n (rowDone n tol i k m)
 unfolding rowDone
 row-sized n tol i zero m h = h
 row-sized n tol i (suc k) m h = pair-sized n tol i (i + 1 + k) (rowDone n tol i k m) (row-sized n tol i k m h)
 
-pub rows-sized : (n : ℕ) (tol : Float) (k : ℕ) (m : Turning) → TurningSized n m → TurningSized n (rowsDone n tol k m)
+pub rows-sized : (n : ℕ) (tol : Float) (k : ℕ) (m : Rotating) → Sized n m → Sized n (rowsDone n tol k m)
 unfolding rowsDone
 rows-sized n tol zero m h = h
 rows-sized n tol (suc i) m h = row-sized n tol i (n - (i + 1)) (rowsDone n tol i m) (rows-sized n tol i m h)
 
-pub sweeps-sized : (n : ℕ) (tol : Float) (limit : ℕ) (m : Turning) → TurningSized n m → TurningSized n (sweeps n tol limit m .turning)
+pub sweeps-sized : (n : ℕ) (tol : Float) (most : ℕ) (m : Rotating) → Sized n m → Sized n (sweeps n tol most m .reached)
 unfolding sweeps
 sweeps-sized n tol zero m h = h
-sweeps-sized n tol (suc limit) m h = go (eqb (sweep n tol m .rotations) (m .rotations)) (rows-sized n tol n m h) (sweeps-sized n tol limit (sweep n tol m) (rows-sized n tol n m h))
+sweeps-sized n tol (suc left) m h = go (eqb (sweep n tol m .rotations) (m .rotations)) (rows-sized n tol n m h) (sweeps-sized n tol left (sweep n tol m) (rows-sized n tol n m h))
   where
-    go : (b : Bool) → TurningSized n (sweep n tol m) → TurningSized n (sweeps n tol limit (sweep n tol m) .turning) → TurningSized n (cond b (record { turning = sweep n tol m; succeeded = true }) (sweeps n tol limit (sweep n tol m)) .turning)
+    go : (b : Bool) → Sized n (sweep n tol m) → Sized n (sweeps n tol left (sweep n tol m) .reached) → Sized n (cond b (record { reached = sweep n tol m; succeeded = true }) (sweeps n tol left (sweep n tol m)) .reached)
     go true u v = u
     go false u v = v
 
@@ -172,9 +172,9 @@ unit-length n = square-length n _
 -- Jacobi's method on a block
 abbrev pub swept : SolverParam → ℕ → List Float → Swept
 swept par n x =
-    sweeps n (par .«eps_zero» *ᶠ par .«eps_zero») (par .«sweep_limit») (record { matrix = diagonalTimes √2 n x; vectors = unit n; rotations = 0 })
+    jacobi par n (diagonalTimes √2 n x) (unit n)
 
-swept-sized : (par : SolverParam) (n : ℕ) (x : List Float) → TurningSized n (swept par n x .turning)
+swept-sized : (par : SolverParam) (n : ℕ) (x : List Float) → Sized n (swept par n x .reached)
 swept-sized par n x =
     sweeps-sized n (par .«eps_zero» *ᶠ par .«eps_zero») (par .«sweep_limit») (record { matrix = diagonalTimes √2 n x; vectors = unit n; rotations = 0 })
     (record { matrix = diagonalTimes-length √2 n x; vectors = unit-length n })

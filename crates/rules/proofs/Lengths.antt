@@ -16,8 +16,9 @@ use Rattle.rules.specs.Product.{Passed, isNone, projAll, groupAll, coneW
 use Rattle.rules.specs.Problem.{Problem, Embed, embed, matrix, column, blocks, lengthX, lengthY}
 use Rattle.rules.specs.Step.{State, part, aOp, aTrans, bOp, cOp, cTrans, xX, xY, xS, xTau, yN, yM, y1, opN, opM, op1, opK, transX, transY, transS, transTau, transOpK, movedX, projected, tauTaken, movedY, updated}
 use Rattle.rules.specs.Criteria.{tauOf, withResiduals, primalResidual, dualResidual, ray, dualRay, judged}
-use Rattle.rules.specs.Prepare.{Norms, zeros, diagonal, columnIn, withB, withC, startX, sumsX, sumsY, sumsS, sumsTau, groupedX, dpTauOf, dpSigmaOf, prepared, preparedNorms}
-use Rattle.rules.specs.Run.{turn, run}
+use Rattle.rules.specs.declared.Norms.{Norms}
+use Rattle.rules.specs.Prepare.{zeros, diagonal, columnIn, withB, withC, startX, sumsX, sumsY, sumsS, sumsTau, groupedX, dpTauOf, dpSigmaOf, prepared, preparedNorms}
+use Rattle.rules.specs.Run.{wholeStep, stateFrom, run}
 use Rattle.rules.specs.Demands.{stateAfter}
 use Rattle.rules.proofs.KernelLengths.{scaled-length, added-length, shifted-length, transformedDi-length, diagonal-length, opped-length, transOpped-length, absaddedCols-length, absaddedRows-length, groupAll-length, PassKeeps, pass-keeps}
 use Rattle.rules.proofs.Parts.{part-length}
@@ -256,9 +257,9 @@ judged-length k eps ns x rx h l = go (lt eps (tauOf k x)) refl
 
 -- ---- a whole step
 
-pub turn-sized : (p : Problem) (ns : Norms) (s : State) → Fitting p → Sized p s → Sized p (turn p ns s .state)
-unfolding turn
-turn-sized p ns s fit h =
+pub whole-step-sized : (p : Problem) (ns : Norms) (s : State) → Fitting p → Sized p s → Sized p (wholeStep p ns s .state)
+unfolding wholeStep
+whole-step-sized p ns s fit h =
     let v = updated p s .state in
     let k : Sized p v = updated-sized p s fit h in
     record {
@@ -369,10 +370,13 @@ prepared-sized p =
 
 -- ---- all the steps
 
+pub sized-from : (p : Problem) (ns : Norms) (s : State) → Fitting p → Sized p s → (k : ℕ) → Sized p (stateFrom p ns s k)
+unfolding stateFrom
+sized-from p ns s fit h zero = h
+sized-from p ns s fit h (suc k) = whole-step-sized p ns (stateFrom p ns s k) fit (sized-from p ns s fit h k)
+
 pub states-sized : (p : Problem) → Fitting p → (k : ℕ) → Sized p (stateAfter p k)
-unfolding stateAfter
-states-sized p fit zero = prepared-sized p
-states-sized p fit (suc k) = turn-sized p (preparedNorms p) (stateAfter p k) fit (states-sized p fit k)
+states-sized p fit k = sized-from p (preparedNorms p) (prepared p) fit (prepared-sized p) k
 
 pub run-sized : (p : Problem) → Fitting p → Sized p (run p .state)
 run-sized p fit = rw (ends-first p .state-there) (states-sized p fit (run p .steps))

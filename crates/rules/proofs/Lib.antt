@@ -1,6 +1,7 @@
 pub mod Helpers
 pub mod Root
 pub mod RootNearest
+pub mod RootOnly
 pub mod RootPatterns
 pub mod Arithmetic
 pub mod Triangle
@@ -14,6 +15,7 @@ pub mod KernelLengths
 pub mod Lengths
 pub mod Accepted
 pub mod OldContents
+pub mod Answered
 pub mod Demands
 pub mod Outcome
 pub mod Vectors

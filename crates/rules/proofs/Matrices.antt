@@ -3,10 +3,10 @@ use Prim.Native.Nat.{ℕ, zero, suc, _+_, _-_, _*_, _<_, _≤_}
 use native.Mathlib.Nat.{mul-comm, suc-mul, mul-le-mul, mul-le-mul-left, mul-le-mul-right, mul-zero, mul-suc}
 use native.Mathlib.Omega.{arith}
 use mathlib.Core.Path.{_≡_, refl, sym, ap, _∙_}
-use mathlib.Core.Bool.{Bool, true, false, cond, _&&_, false≢true}
+use mathlib.Core.Bool.{Bool, true, false, _&&_, false≢true}
 use mathlib.Core.List.{List}
-use borrow.Author.Tests.{ltb-true, ltb-false, leb-true, eqb-true, le-leb, eq-eqb}
-use lib.Dec.{ltb, leb, eqb}
+use borrow.Author.Tests.{leb-true, eqb-true, le-leb, eq-eqb}
+use lib.Dec.{leb, eqb}
 use lib.Ieee.{Float}
 use lib.ListN.{length, take, drop}
 use Rattle.rules.specs.declared.MatType.{MatType}
@@ -17,10 +17,10 @@ use Rattle.rules.specs.Helpers.{magnitude}
 use Rattle.rules.specs.Vectors.{abssum}
 use Rattle.rules.specs.Limits.{limit}
 use Rattle.rules.specs.Arithmetic.{_+ᶠ_, _*ᶠ_, +0, at}
-use Rattle.rules.specs.Matrices.{nRow, nCol, triangle, storedLength, place, entry, entries, flipped, colSum, product, transformed, width, height, storedFits, Stored, transformFits}
+use Rattle.rules.specs.Matrices.{nRow, nCol, storedLength, place, entry, entries, transposed, colSum, product, transformed, width, height, storedFits, Stored, lineFits, transformFits}
 use Rattle.rules.proofs.Arithmetic.{sum-none, sum-same, each-same}
 use Rattle.rules.proofs.Vectors.{abssum-of-part, abssum-of-rest}
-use Rattle.rules.proofs.Triangle.{triangle-inside}
+use Rattle.rules.proofs.Columns.{packedPlace-mirrored, packedPlace-inside}
 
 -- ---- every entry is stored
 
@@ -34,11 +34,7 @@ dense-inside rows cols r c hr hc =
 pub place-inside : (t : MatType) (r c : ℕ) → r < nRow t → c < nCol t → place t r c < storedLength t
 unfolding place
 place-inside (General rows cols) r c hr hc = dense-inside (rows .0) (cols .0) r c hr hc
-place-inside (SymPack rows) r c hr hc = go (ltb r c) refl
-  where
-    go : (b : Bool) → ltb r c ≡ b → cond b (triangle c + r) (triangle r + c) < triangle (rows .0)
-    go true e = omega (arith, ltb-true r c e, triangle-inside c (rows .0) hc)
-    go false e = omega (arith, ltb-false r c e, triangle-inside r (rows .0) hr)
+place-inside (SymPack rows) r c hr hc = packedPlace-inside (rows .0) r c hr hc
 
 pub stored-inside : {t : MatType} {mat : List Float} → Stored t mat → (r c : ℕ) → r < nRow t → c < nCol t → place t r c < length mat
 stored-inside {t} {mat} s r c hr hc = rw (s .all) (place-inside t r c hr hc)
@@ -80,44 +76,20 @@ module _ {rows : Rows} {cols : Cols} {mat : List Float} (s : Stored (General row
   unfolding entry
   column-sum c h = abssum-of-part mat (c * rows .0) (c * rows .0 + rows .0) (rows .0) refl (column-inside c h)
 
-  pub row-sum : (r : ℕ) → r < rows .0 → 0 < length mat → abssum (take (length mat - r) (drop r mat)) (rows .0) ≡ colSum (flipped (entry (General rows cols) mat)) (cols .0) r
+  pub row-sum : (r : ℕ) → r < rows .0 → 0 < length mat → abssum (take (length mat - r) (drop r mat)) (rows .0) ≡ colSum (transposed (entry (General rows cols) mat)) (cols .0) r
   unfolding entry
   row-sum r h l = abssum-of-rest mat r (rows .0) (cols .0) h (some-columns l) (s .all)
 
-  pub row-sum-none : (r : ℕ) → r < rows .0 → length mat ≡ 0 → +0 ≡ colSum (flipped (entry (General rows cols) mat)) (cols .0) r
+  pub row-sum-none : (r : ℕ) → r < rows .0 → length mat ≡ 0 → +0 ≡ colSum (transposed (entry (General rows cols) mat)) (cols .0) r
   unfolding entry
   row-sum-none r h e = rw (no-columns r h e) (sym (sum-none +0 (λ c. magnitude (entry (General rows cols) mat r c))))
 
--- a packed matrix is symmetric
-pub place-mirrored : (rows : Rows) (r c : ℕ) → place (SymPack rows) c r ≡ place (SymPack rows) r c
-unfolding place
-place-mirrored rows r c = go (ltb r c) (ltb c r) refl refl
-  where
-    go : (a b : Bool) → ltb r c ≡ a → ltb c r ≡ b → cond b (triangle r + c) (triangle c + r) ≡ cond a (triangle c + r) (triangle r + c)
-    go true true p q = absurd (omega (arith, ltb-true r c p, ltb-true c r q))
-    go true false p q = refl
-    go false true p q = refl
-    go false false p q =
-        let e : r ≡ c = omega (arith, ltb-false r c p, ltb-false c r q) in
-        rw e
+-- ---- a packed matrix transposed is the same
 
--- on and above the diagonal
-pub packed-entry : (rows : Rows) (mat : List Float) (r c : ℕ) → r ≤ c → entry (SymPack rows) mat r c ≡ at mat (triangle c + r)
-unfolding entry
-packed-entry rows mat r c h = ap (at mat) (go (ltb r c) refl)
-  where
-    go : (b : Bool) → ltb r c ≡ b → cond b (triangle c + r) (triangle r + c) ≡ triangle c + r
-    go true e = refl
-    go false e =
-        let same : r ≡ c = omega (arith, ltb-false r c e) in
-        rw same
-
--- ---- a packed matrix turned over is the same
-
-pub packed-turned : (transpose : Bool) (rows : Rows) (mat : List Float) (r c : ℕ) → entries transpose (SymPack rows) mat r c ≡ entry (SymPack rows) mat r c
-unfolding entry
-packed-turned true rows mat r c = ap (at mat) (place-mirrored rows r c)
-packed-turned false rows mat r c = refl
+pub packed-transposed : (transpose : Bool) (rows : Rows) (mat : List Float) (r c : ℕ) → entries transpose (SymPack rows) mat r c ≡ entry (SymPack rows) mat r c
+unfolding entry place
+packed-transposed true rows mat r c = ap (at mat) (packedPlace-mirrored r c)
+packed-transposed false rows mat r c = refl
 
 pub packed-fits : (transpose : Bool) (rows : Rows) (mat x y : List Float) → transformFits transpose (SymPack rows) mat x y ≡ transformFits false (SymPack rows) mat x y
 packed-fits true rows mat x y = refl
@@ -151,10 +123,13 @@ pub record Fitting (transpose : Bool) (t : MatType) (mat x y : List Float) : Typ
 
 pub fitting : {transpose : Bool} {t : MatType} {mat x y : List Float} → transformFits transpose t mat x y ≡ true → Fitting transpose t mat x y
 fitting {transpose} {t} {mat} {x} {y} e =
-    let p = both-true (storedFits t mat && eqb (length x) (width transpose t)) (eqb (length y) (height transpose t)) e in
+    let p = both-true (lineFits transpose t mat x) (eqb (length y) (height transpose t)) e in
     let q = both-true (storedFits t mat) (eqb (length x) (width transpose t)) (p .0) in
     record { fits = e; stored = stored-if-fits (q .0); wide = eqb-true (length x) (width transpose t) (q .1); high = eqb-true (length y) (height transpose t) (p .1) }
 
 -- sizes within the limits can be multiplied
-pub product-small : (a b : ℕ) → a ≤ limit → b ≤ limit + 1 → a * b ≤ 65792
+pub product-small : (a b : ℕ) → a ≤ limit → b ≤ limit + 1 → a * b ≤ limit * (limit + 1)
 product-small a b h l = mul-le-mul h l
+
+pub square-small : (n : ℕ) → n ≤ limit → n * n ≤ limit * limit
+square-small n h = mul-le-mul h h

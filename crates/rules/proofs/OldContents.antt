@@ -17,11 +17,13 @@ use Rattle.rules.specs.Step.{State, xX, xY}
 use Rattle.rules.specs.Criteria.{tauOf}
 use Rattle.rules.specs.Prepare.{zeros}
 use Rattle.rules.specs.Run.{Ended, isScaled, isConeFailure, finalX, laidOut, run, Left, leftBy}
-use Rattle.rules.specs.Refusals.{Refusal, accepted, refused, refusal, readProblem, turnedAway, solved}
-use Rattle.rules.specs.Demands.{OldContentsChangeNothing, PlacesBeyondKept}
+use Rattle.rules.specs.declared.Refusal.{Refusal}
+use Rattle.rules.specs.declared.Refusal.the-variants.{Accepted, Refused}
+use Rattle.rules.specs.Refusals.{refusal, readProblem, turnedAway, solved}
+use Rattle.rules.specs.Demands.{workNeeded, coneNeeded, OldContentsChangeNothing, PlacesBeyondKept}
 use Rattle.rules.proofs.KernelLengths.{scaled-length}
 use Rattle.rules.proofs.Lengths.{Sized, xX-length, xY-length, run-sized}
-use Rattle.rules.proofs.Accepted.{accepted-fits, read-fits}
+use Rattle.rules.proofs.Accepted.{accepted-as-read}
 
 -- ---- the required parts have the required lengths
 
@@ -78,15 +80,14 @@ left-answer : (p : Problem) (work cone work' cone' : List Float) (e : Ended) →
 unfolding leftBy
 left-answer p work cone work' cone' e = refl
 
-pub solved-accepted : (p : Problem) (work cone : List Float) → refusal p (length work) (length cone) ≡ accepted → solved p work cone ≡ leftBy (readProblem p) work cone (run (readProblem p))
+pub solved-accepted : (p : Problem) (work cone : List Float) → refusal p (length work) (length cone) ≡ Accepted → solved p work cone ≡ leftBy (readProblem p) work cone (run (readProblem p))
 unfolding solved
 solved-accepted p work cone e = rw e
 
-pub old-contents-change-nothing : (p : Problem) (work cone work' cone' : List Float) → refusal p (length work) (length cone) ≡ accepted → refusal p (length work') (length cone') ≡ accepted → OldContentsChangeNothing p work cone work' cone'
-unfolding readProblem
+pub old-contents-change-nothing : (p : Problem) (work cone work' cone' : List Float) → refusal p (length work) (length cone) ≡ Accepted → refusal p (length work') (length cone') ≡ Accepted → OldContentsChangeNothing p work cone work' cone'
 old-contents-change-nothing p work cone work' cone' e e' =
     let q = readProblem p in
-    let s : Sized q (run q .state) = run-sized q (read-fits p (accepted-fits p (length work) (length cone) e .fitting)) in
+    let s : Sized q (run q .state) = run-sized q (accepted-as-read p (length work) (length cone) e .fitting) in
     let one = solved-accepted p work cone e in
     let other = solved-accepted p work' cone' e' in
     record {
@@ -118,18 +119,17 @@ left-kept p work cone e s hw hc =
       cone-beyond = drop-at (requiredCone p e) (drop needed cone) needed (requiredCone-length p e s);
     }
 
-solved-refused : (p : Problem) (work cone : List Float) (x : Ending) → refusal p (length work) (length cone) ≡ refused x → solved p work cone ≡ turnedAway x work cone
+solved-refused : (p : Problem) (work cone : List Float) (x : Ending) → refusal p (length work) (length cone) ≡ Refused x → solved p work cone ≡ turnedAway x work cone
 unfolding solved
 solved-refused p work cone x e = rw e
 
-solved-kept : (p : Problem) (work cone : List Float) (r : Refusal) → refusal p (length work) (length cone) ≡ r → Kept (workLength (p .m) (p .n)) (coneWork (blocks p)) work cone (solved p work cone)
-unfolding readProblem
-solved-kept p work cone accepted e =
+solved-kept : (p : Problem) (work cone : List Float) (r : Refusal) → refusal p (length work) (length cone) ≡ r → Kept (workNeeded p) (coneNeeded p) work cone (solved p work cone)
+solved-kept p work cone Accepted e =
     let q = readProblem p in
-    let fits = accepted-fits p (length work) (length cone) e in
+    let fits = accepted-as-read p (length work) (length cone) e in
     rw (solved-accepted p work cone e)
-    (left-kept q work cone (run q) (run-sized q (read-fits p (fits .fitting))) (fits .long-work) (fits .long-cone))
-solved-kept p work cone (refused x) e =
+    (left-kept q work cone (run q) (run-sized q (fits .fitting)) (fits .long-work) (fits .long-cone))
+solved-kept p work cone (Refused x) e =
     rw (solved-refused p work cone x e) (record { work-length = refl; cone-length = refl; work-beyond = refl; cone-beyond = refl })
 
 pub places-beyond-kept : (p : Problem) (work cone : List Float) → PlacesBeyondKept p work cone

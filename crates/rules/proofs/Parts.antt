@@ -1,4 +1,4 @@
--- Laws of a buffer of which a part is lent and comes back, and of parts that are lent in turn from the front until all are new.
+-- Laws of a buffer of which a part is lent and comes back, and of parts that are lent in order from the front until all are new.
 use Prim.Native.Nat.{ℕ, _+_, _-_, _≤_}
 use native.Mathlib.Nat.{add-sub-cancel-left}
 use native.Mathlib.Omega.{arith}

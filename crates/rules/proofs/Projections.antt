@@ -1,7 +1,7 @@
 -- Laws of the projections: what each kind's rule comes to, over the whole block.
 use Prim.Native.Nat.{suc, _-_, _≤_, _<_}
 use native.Mathlib.Omega.{arith}
-use mathlib.Core.Path.{_≡_, refl, _∙_}
+use mathlib.Core.Path.{_≡_, refl, sym, _∙_, ap}
 use mathlib.Core.Bool.{true, false}
 use mathlib.Core.List.{List, [], _∷_, _++_, append-nil}
 use lib.Ieee.{Float, binary64, ofBits, le, neg, add}
@@ -12,7 +12,7 @@ use Rattle.rules.specs.Helpers.{one, larger}
 use Rattle.rules.specs.Vectors.{norm, scaled}
 use Rattle.rules.specs.Jacobi.{two}
 use Rattle.rules.specs.Root.{root}
-use Rattle.rules.specs.Projections.{√2, projSOC, halfTurn, projRotSOC}
+use Rattle.rules.specs.Projections.{√2, projSOC, reflected, projRotSOC}
 
 -- ---- second-order: the tail is the part from place 1 on, and comes back as a part
 
@@ -80,17 +80,11 @@ root-two-is = refl
 
 -- ---- rotated
 
-pub turn-none : (xs : List Float) → length xs ≤ 1 → xs ≡ halfTurn xs
-unfolding halfTurn
-turn-none [] h = refl
-turn-none (r ∷ []) h = refl
-turn-none (r ∷ s ∷ rest) h = absurd (omega arith)
-
-pub turn-more : (xs : List Float) → 1 < length xs → set (set xs 0 ((at xs 0 +ᶠ at xs 1) /ᶠ √2)) 1 ((at xs 0 -ᶠ at xs 1) /ᶠ √2) ≡ halfTurn xs
-unfolding halfTurn
-turn-more [] h = absurd (omega arith)
-turn-more (r ∷ []) h = absurd (omega arith)
-turn-more (r ∷ s ∷ rest) h = refl
+pub reflected-more : (xs : List Float) → 1 < length xs → set (set xs 0 ((at xs 0 +ᶠ at xs 1) /ᶠ √2)) 1 ((at xs 0 -ᶠ at xs 1) /ᶠ √2) ≡ reflected xs
+unfolding reflected
+reflected-more [] h = absurd (omega arith)
+reflected-more (r ∷ []) h = absurd (omega arith)
+reflected-more (r ∷ s ∷ rest) h = refl
 
 pub rotated-one : (xs : List Float) → length xs ≡ 1 → set xs 0 (larger (at xs 0) +0) ≡ projRotSOC xs
 unfolding projRotSOC
@@ -98,9 +92,43 @@ rotated-one [] h = absurd (omega arith)
 rotated-one (r ∷ []) h = refl
 rotated-one (r ∷ s ∷ rest) h = absurd (omega arith)
 
--- a block of size 0 has nothing to turn
-pub rotated-more : (xs : List Float) → (length xs ≡ 1 → ⊥) → halfTurn (projSOC (halfTurn xs)) ≡ projRotSOC xs
+-- a block of size 0 has nothing to do
+pub rotated-none : (xs : List Float) → length xs ≤ 0 → xs ≡ projRotSOC xs
 unfolding projRotSOC
-rotated-more [] h = refl
-rotated-more (r ∷ []) h = absurd (h refl)
+rotated-none [] h = refl
+rotated-none (r ∷ rest) h = absurd (omega arith)
+
+pub rotated-more : (xs : List Float) → 1 < length xs → reflected (projSOC (reflected xs)) ≡ projRotSOC xs
+unfolding projRotSOC
+rotated-more [] h = absurd (omega arith)
+rotated-more (r ∷ []) h = absurd (omega arith)
 rotated-more (r ∷ s ∷ rest) h = refl
+
+-- the first two of a block, put anew
+abbrev putTwo : Float → Float → List Float → List Float
+putTwo a b xs = set (set xs 0 a) 1 b
+
+put-reflected : (p q : Float) (xs : List Float) → 1 < length xs → putTwo ((p +ᶠ q) /ᶠ √2) ((p -ᶠ q) /ᶠ √2) (putTwo p q xs) ≡ reflected (putTwo p q xs)
+unfolding reflected
+put-reflected p q [] h = absurd (omega arith)
+put-reflected p q (r ∷ []) h = absurd (omega arith)
+put-reflected p q (r ∷ s ∷ rest) h = refl
+
+-- a block of two places or more: xs is reflected to ys and projected to zs
+module _ (xs : List Float) {ys zs : List Float} (h : 1 < length xs) (first : ys ≡ putTwo ((at xs 0 +ᶠ at xs 1) /ᶠ √2) ((at xs 0 -ᶠ at xs 1) /ᶠ √2) xs) (ruled : zs ≡ projSOC ys) where
+  projected : reflected zs ≡ reflected (projSOC (reflected xs))
+  projected = ap reflected ruled ∙ ap (λ (l : List Float). reflected (projSOC l)) (first ∙ reflected-more xs h)
+
+  pub rotated-outside : {ws : List Float} → ws ≡ reflected zs → ws ≡ reflected (projSOC (reflected xs))
+  rotated-outside e = e ∙ projected
+
+  -- a point that lies inside stays between the two
+  pub rotated-inside : zs ≡ ys → {ws : List Float} → (let p = (at xs 0 +ᶠ at xs 1) /ᶠ √2 in let q = (at xs 0 -ᶠ at xs 1) /ᶠ √2 in ws ≡ putTwo ((p +ᶠ q) /ᶠ √2) ((p -ᶠ q) /ᶠ √2) zs) → ws ≡ reflected (projSOC (reflected xs))
+  rotated-inside kept e =
+      let p = (at xs 0 +ᶠ at xs 1) /ᶠ √2 in
+      let q = (at xs 0 -ᶠ at xs 1) /ᶠ √2 in
+      e
+      ∙ ap (λ (l : List Float). putTwo ((p +ᶠ q) /ᶠ √2) ((p -ᶠ q) /ᶠ √2) l) (kept ∙ first)
+      ∙ put-reflected p q xs h
+      ∙ ap reflected (sym first ∙ sym kept)
+      ∙ projected

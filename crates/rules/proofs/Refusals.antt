@@ -1,144 +1,192 @@
 -- A refusal is given exactly when its fact is the first of the table to hold, and changes no buffer.
-use Prim.Native.Nat.{ℕ, zero, suc, _<_, _≤_}
+use Prim.Native.Nat.{ℕ, zero, suc, _+_, _<_, _≤_}
 use native.Mathlib.Omega.{arith}
-use mathlib.Core.Path.{_≡_, refl, sym, _∙_}
+use mathlib.Core.Path.{_≡_, refl, sym, _∙_, ap}
 use mathlib.Core.Logic.{_↔_}
 use mathlib.Core.Bool.{Bool, true, false, cond, _&&_, true≢false}
-use mathlib.Core.List.{List}
+use mathlib.Core.List.{List, [], _∷_}
 use lib.Dec.{leb}
 use lib.Ieee.{Float, le}
 use lib.ListN.{length}
 use Rattle.rules.specs.declared.Answer.{Answer}
 use Rattle.rules.specs.declared.Ending.{Ending}
-use Rattle.rules.specs.declared.Ending.the-variants.{BadParam, TooLarge, InvalidOp, BadCone, NotFinite, WorkShortage, Converged, ExcessIter, ExcessIterUnscaled, Unbounded, Infeasible, ConeFailure}
+use Rattle.rules.specs.declared.Ending.the-variants.{Converged, ExcessIter, ExcessIterUnscaled, Unbounded, Infeasible, ConeFailure}
 use Rattle.rules.specs.declared.SolverParam.{SolverParam}
 use Rattle.rules.specs.Product.{Failure, none, block}
 use Rattle.rules.specs.Problem.{Problem}
-use Rattle.rules.specs.Criteria.{Criteria, conv, inf?}
-use Rattle.rules.specs.Run.{goesOn, ends, verdict, allowance, run, Left, leftBy}
-use Rattle.rules.specs.Refusals.{Refusal, accepted, refused, refusal, badParam, tooLarge, invalidOp, badCone, notFinite, workShortage, numberOf, readProblem, turnedAway, leftAfter, solved, SolveOutcome}
-use Rattle.rules.specs.Demands.{fact, FirstToHold, TurnedAwayExactly, step}
+use Rattle.rules.specs.declared.Criteria.{Criteria}
+use Rattle.rules.specs.declared.Criteria.the-variants.{Conv, Inf}
+use Rattle.rules.specs.declared.Verdict.the-variants.{Ends, GoesOn}
+use Rattle.rules.specs.Run.{verdict, allowance, run, Left, leftBy}
+use Rattle.rules.specs.declared.Refusal.the-variants.{Accepted}
+use Rattle.rules.specs.Blocks.{isBadCone}
+use Rattle.rules.specs.Refusals.{Fact, _when_, First, none-applies, applies, firstOf, facts, asRefusal, refusal, numberOf, badCone, shortBuffers, workShortage, readProblem, turnedAway, leftAfter, solved, SolveOutcome}
+use Rattle.rules.specs.Demands.{holdsAt, NoneHolds, FirstToHold, NumberedFrom, numberGiven, GivenExactly, TurnedAwayExactly, step}
 use Rattle.rules.proofs.Columns.{by-less}
 use Rattle.rules.proofs.Run.{ends-first}
 
--- ---- the first fact to hold
+-- ---- any table of refusals
 
-module _ (p : Problem) (work cone : ℕ) where
-  -- no fact before the nth holds
-  abbrev NoneBefore : ℕ → Type 0
-  NoneBefore n = (j : ℕ) → j < n → fact p work cone j ≡ false
-
-  none-more : (n : ℕ) → NoneBefore n → fact p work cone n ≡ false → NoneBefore (suc n)
-  none-more n before e j h =
-      by-less j n (λ l. before j l)
-      (λ l.
-      let same : j ≡ n = omega arith in
-      rw same e)
-
-  none-before-one : NoneBefore 1
-  none-before-one zero h = refl
-  none-before-one (suc j) h = absurd (omega arith)
-
-  none-above : (j : ℕ) → 7 ≤ j → fact p work cone j ≡ false
-  none-above zero h = absurd (omega arith)
-  none-above (suc zero) h = absurd (omega arith)
-  none-above (suc (suc zero)) h = absurd (omega arith)
-  none-above (suc (suc (suc zero))) h = absurd (omega arith)
-  none-above (suc (suc (suc (suc zero)))) h = absurd (omega arith)
-  none-above (suc (suc (suc (suc (suc zero))))) h = absurd (omega arith)
-  none-above (suc (suc (suc (suc (suc (suc zero)))))) h = absurd (omega arith)
-  none-above (suc (suc (suc (suc (suc (suc (suc j))))))) h = refl
-
-  -- what the refusal says of the facts
-  abbrev Says : Refusal → Type 0
-  Says accepted = (j : ℕ) → fact p work cone j ≡ false
-  Says (refused e) = FirstToHold p work cone (numberOf e)
-
-  first : (i : ℕ) → NoneBefore i → fact p work cone i ≡ true → FirstToHold p work cone i
-  first i before e = record { holds = e; none-before = before }
-
-  -- the tests from the kth on
-  abbrev from-6 : Refusal
-  from-6 = cond (workShortage p work cone) (refused WorkShortage) accepted
-
-  abbrev from-5 : Refusal
-  from-5 = cond (notFinite p) (refused NotFinite) from-6
-
-  abbrev from-4 : Refusal
-  from-4 = cond (badCone p) (refused BadCone) from-5
-
-  abbrev from-3 : Refusal
-  from-3 = cond (invalidOp p) (refused InvalidOp) from-4
-
-  abbrev from-2 : Refusal
-  from-2 = cond (tooLarge p) (refused TooLarge) from-3
-
-  says-6 : (t : Bool) → workShortage p work cone ≡ t → NoneBefore 6 → Says (cond t (refused WorkShortage) accepted)
-  says-6 true e b = first 6 b e
-  says-6 false e b = λ j. by-less j 7 (none-more 6 b e j) (none-above j)
-
-  says-5 : (t : Bool) → notFinite p ≡ t → NoneBefore 5 → Says (cond t (refused NotFinite) from-6)
-  says-5 true e b = first 5 b e
-  says-5 false e b = says-6 (workShortage p work cone) refl (none-more 5 b e)
-
-  says-4 : (t : Bool) → badCone p ≡ t → NoneBefore 4 → Says (cond t (refused BadCone) from-5)
-  says-4 true e b = first 4 b e
-  says-4 false e b = says-5 (notFinite p) refl (none-more 4 b e)
-
-  says-3 : (t : Bool) → invalidOp p ≡ t → NoneBefore 3 → Says (cond t (refused InvalidOp) from-4)
-  says-3 true e b = first 3 b e
-  says-3 false e b = says-4 (badCone p) refl (none-more 3 b e)
-
-  says-2 : (t : Bool) → tooLarge p ≡ t → NoneBefore 2 → Says (cond t (refused TooLarge) from-3)
-  says-2 true e b = first 2 b e
-  says-2 false e b = says-3 (invalidOp p) refl (none-more 2 b e)
-
-  says-1 : (t : Bool) → badParam (p .par) ≡ t → Says (cond t (refused BadParam) from-2)
-  says-1 true e = first 1 none-before-one e
-  says-1 false e = says-2 (tooLarge p) refl (none-more 1 none-before-one e)
-
-  says : Says (refusal p work cone)
-  unfolding refusal
-  says = says-1 (badParam (p .par)) refl
+module _ {R : Type 0} where
+  none-before-one : (rows : List (Fact R)) (j : ℕ) → j < 1 → holdsAt rows j ≡ false
+  none-before-one rows zero h = refl
+  none-before-one rows (suc j) h = absurd (omega arith)
 
   -- two facts are not both the first
-  only-first : (i j : ℕ) → FirstToHold p work cone i → FirstToHold p work cone j → i ≡ j
-  only-first i j f g =
+  only-first : {rows : List (Fact R)} {i j : ℕ} → FirstToHold rows i → FirstToHold rows j → i ≡ j
+  only-first {rows} {i} {j} f g =
       by-less i j (λ l. absurd (true≢false (sym (f .holds) ∙ g .none-before i l)))
       (λ l. by-less j i (λ k. absurd (true≢false (sym (g .holds) ∙ f .none-before j k))) (λ k. omega arith))
 
--- where a problem is accepted no fact holds
-pub none-holds : (p : Problem) (work cone : ℕ) → refusal p work cone ≡ accepted → (j : ℕ) → fact p work cone j ≡ false
-none-holds p work cone e = rw e at (says p work cone)
+module _ {R : Type 0} (number : R → ℕ) where
+  none-in-none : (i : ℕ) → holdsAt {R = R} [] i ≡ false
+  none-in-none zero = refl
+  none-in-none (suc i) = refl
 
--- ---- an accepted run is no refusal
+  -- what a table whose refusals are numbered from suc k on gives
+  record GivenAt (k : ℕ) (rows : List (Fact R)) (e : R) : Type 0 where
+    place : ℕ
+    first : FirstToHold rows place
+    numbered-so : number e ≡ k + place
 
-two-unnumbered : (t l : Bool) (e e' x : Ending) → numberOf e ≡ 0 → numberOf e' ≡ 0 → cond t (ends e) (cond l (ends e') goesOn) ≡ ends x → numberOf x ≡ 0
-two-unnumbered true l e e' x h h' is =
-    let same : e ≡ x = cc in
-    rw (← same) h
-two-unnumbered false true e e' x h h' is =
-    let same : e' ≡ x = cc in
-    rw (← same) h'
-two-unnumbered false false e e' x h h' is =
+  abbrev Says : ℕ → List (Fact R) → First R → Type 0
+  Says k rows none-applies = NoneHolds rows
+  Says k rows (applies e) = GivenAt k rows e
+
+  -- a row that does not hold, before others
+  one-more : (k : ℕ) (e : R) (rows : List (Fact R)) (r : First R) → Says (suc k) rows r → Says k ((e when false) ∷ rows) r
+  one-more k e rows none-applies s = later
+    where
+      later : (i : ℕ) → holdsAt ((e when false) ∷ rows) i ≡ false
+      later zero = refl
+      later (suc zero) = refl
+      later (suc (suc i)) = s (suc i)
+  one-more k e rows (applies x) s = go (s .place) refl
+    where
+      go : (i : ℕ) → s .place ≡ i → GivenAt k ((e when false) ∷ rows) x
+      go zero is = absurd (true≢false (sym (s .first .holds) ∙ ap (holdsAt rows) is))
+      go (suc i) is =
+          record {
+            place = suc (suc i);
+            first = record { holds = rw is at (s .first .holds); none-before = before };
+            numbered-so = omega (arith, s .numbered-so);
+          }
+        where
+          before : (j : ℕ) → j < suc (suc i) → holdsAt ((e when false) ∷ rows) j ≡ false
+          before zero h = refl
+          before (suc zero) h = refl
+          before (suc (suc j)) h = s .first .none-before (suc j) (omega arith)
+
+  says : (k : ℕ) (rows : List (Fact R)) → NumberedFrom number (suc k) rows → Says k rows (firstOf rows)
+  unfolding firstOf
+  says k [] n = none-in-none
+  says k ((e when true) ∷ rows) n =
+      let so : number e ≡ suc k = n .0 in
+      record { place = 1; first = record { holds = refl; none-before = none-before-one ((e when true) ∷ rows) }; numbered-so = omega arith }
+  says k ((e when false) ∷ rows) n = one-more k e rows (firstOf rows) (says (suc k) rows (n .1))
+
+  given-by : (rows : List (Fact R)) (r : First R) → Says 0 rows r → (i : ℕ) → 1 ≤ i → (numberGiven number r ≡ i) ↔ FirstToHold rows i
+  given-by rows none-applies s i h = (λ e. absurd (omega arith), λ f. absurd (true≢false (sym (f .holds) ∙ s i)))
+  given-by rows (applies x) s i h = (
+    λ e.
+        let same : s .place ≡ i = omega (arith, s .numbered-so) in
+        rw (← same) (s .first),
+    λ f.
+        let same : s .place ≡ i = only-first (s .first) f in
+        omega (arith, s .numbered-so),
+  )
+
+  accepts-by : (rows : List (Fact R)) (r : First R) → Says 0 rows r → (r ≡ none-applies) ↔ NoneHolds rows
+  accepts-by rows none-applies s = (λ e. s, λ n. refl)
+  accepts-by rows (applies x) s = (
+    λ e.
+        let z : _≡_ {A = ℕ} 0 1 = cc in
+        absurd (omega arith),
+    λ n. absurd (true≢false (sym (s .first .holds) ∙ n (s .place))),
+  )
+
+  -- the first fact to hold answers
+  pub given-exactly : (rows : List (Fact R)) → NumberedFrom number 1 rows → GivenExactly number rows
+  given-exactly rows n =
+      let s = says 0 rows n in
+      record { refuses = given-by rows (firstOf rows) s; accepts = accepts-by rows (firstOf rows) s }
+
+-- ---- the table's
+
+pub numbered : (p : Problem) (work cone : ℕ) → NumberedFrom numberOf 1 (facts p work cone)
+numbered p work cone = (refl, (refl, (refl, (refl, (refl, (refl, tt))))))
+
+refusal-is : (p : Problem) (work cone : ℕ) → refusal p work cone ≡ asRefusal (firstOf (facts p work cone))
+unfolding refusal
+refusal-is p work cone = refl
+
+accepted-is : (r : First Ending) → asRefusal r ≡ Accepted → r ≡ none-applies
+accepted-is none-applies e = refl
+accepted-is (applies x) e =
     let z : _≡_ {A = ℕ} 0 1 = cc in
     absurd (omega arith)
 
-three-unnumbered : (t u l : Bool) (e e' e'' x : Ending) → numberOf e ≡ 0 → numberOf e' ≡ 0 → numberOf e'' ≡ 0 → cond t (ends e) (cond u (ends e') (cond l (ends e'') goesOn)) ≡ ends x → numberOf x ≡ 0
-three-unnumbered true u l e e' e'' x h h' h'' is =
+table-given : (p : Problem) (work cone : ℕ) → GivenExactly numberOf (facts p work cone)
+table-given p work cone = given-exactly numberOf (facts p work cone) (numbered p work cone)
+
+-- where a problem is accepted no fact holds
+pub none-holds : (p : Problem) (work cone : ℕ) → refusal p work cone ≡ Accepted → NoneHolds (facts p work cone)
+none-holds p work cone e = table-given p work cone .accepts .0 (accepted-is (firstOf (facts p work cone)) (sym (refusal-is p work cone) ∙ e))
+
+pub accepted-if-none-holds : (p : Problem) (work cone : ℕ) → NoneHolds (facts p work cone) → refusal p work cone ≡ Accepted
+accepted-if-none-holds p work cone n = refusal-is p work cone ∙ ap asRefusal (table-given p work cone .accepts .1 n)
+
+-- as the problem is read now nothing of it moves but eps_zero, so that the two facts of the read problem are those of the problem handed over
+pub bad-cone-as-handed : (p : Problem) → badCone p ≡ isBadCone (p .words) (p .m)
+unfolding badCone
+bad-cone-as-handed p = refl
+
+pub shortage-as-handed : (p : Problem) (work cone : ℕ) → workShortage p work cone ≡ shortBuffers (p .m) (p .n) (p .words) work cone
+unfolding workShortage
+shortage-as-handed p work cone = refl
+
+-- ---- an accepted run is no refusal
+
+-- what holds of each ending that a step can say holds of the one that it says
+two-cases : (P : Ending → Type 0) (t l : Bool) (e e' x : Ending) → P e → P e' → cond t (Ends e) (cond l (Ends e') GoesOn) ≡ Ends x → P x
+two-cases P true l e e' x h h' is =
     let same : e ≡ x = cc in
     rw (← same) h
-three-unnumbered false u l e e' e'' x h h' h'' is = two-unnumbered u l e' e'' x h' h'' is
+two-cases P false true e e' x h h' is =
+    let same : e' ≡ x = cc in
+    rw (← same) h'
+two-cases P false false e e' x h h' is =
+    let z : _≡_ {A = ℕ} 0 1 = cc in
+    absurd (omega arith)
 
-verdict-unnumbered : (par : SolverParam) (k : ℕ) (failure : Failure) (criteria : Criteria) (x : Ending) → verdict par k failure criteria ≡ ends x → numberOf x ≡ 0
+three-cases : (P : Ending → Type 0) (t u l : Bool) (e e' e'' x : Ending) → P e → P e' → P e'' → cond t (Ends e) (cond u (Ends e') (cond l (Ends e'') GoesOn)) ≡ Ends x → P x
+three-cases P true u l e e' e'' x h h' h'' is =
+    let same : e ≡ x = cc in
+    rw (← same) h
+three-cases P false u l e e' e'' x h h' h'' is = two-cases P u l e' e'' x h' h'' is
+
+pub record EachEnding (P : Ending → Type 0) (failure : Failure) (criteria : Criteria) : Type 0 where
+  pub failing : (b : ℕ) → failure ≡ block b → P (ConeFailure b)
+  pub converging : (pri dual gap : Float) → failure ≡ none → criteria ≡ Conv pri dual gap → P (Converged pri dual gap) × P (ExcessIter pri dual gap)
+  pub diverging : (unbdd infeas : Float) → failure ≡ none → criteria ≡ Inf unbdd infeas → P (Unbounded unbdd) × P (Infeasible infeas) × P (ExcessIterUnscaled unbdd infeas)
+
+pub verdict-cases : (P : Ending → Type 0) (par : SolverParam) (k : ℕ) (failure : Failure) (criteria : Criteria) (x : Ending) → EachEnding P failure criteria → verdict par k failure criteria ≡ Ends x → P x
 unfolding verdict
-verdict-unnumbered par k (block b) criteria x h =
+verdict-cases P par k (block b) criteria x each h =
     let same : ConeFailure b ≡ x = cc in
-    rw (← same)
-verdict-unnumbered par k none (conv pri dual gap) x h =
-    two-unnumbered (le pri (par .«eps_acc») && le dual (par .«eps_acc») && le gap (par .«eps_acc»)) (leb (allowance par) k) (Converged pri dual gap) (ExcessIter pri dual gap) x refl refl h
-verdict-unnumbered par k none (inf? unbdd infeas) x h =
-    three-unnumbered (le unbdd (par .«eps_inf»)) (le infeas (par .«eps_inf»)) (leb (allowance par) k) (Unbounded unbdd) (Infeasible infeas) (ExcessIterUnscaled unbdd infeas) x refl refl refl h
+    rw (← same) (each .failing b refl)
+verdict-cases P par k none (Conv pri dual gap) x each h =
+    let c = each .converging pri dual gap refl refl in
+    two-cases P (le pri (par .«eps_acc») && le dual (par .«eps_acc») && le gap (par .«eps_acc»)) (leb (allowance par) k) (Converged pri dual gap) (ExcessIter pri dual gap) x (c .0) (c .1) h
+verdict-cases P par k none (Inf unbdd infeas) x each h =
+    let c = each .diverging unbdd infeas refl refl in
+    three-cases P (le unbdd (par .«eps_inf»)) (le infeas (par .«eps_inf»)) (leb (allowance par) k) (Unbounded unbdd) (Infeasible infeas) (ExcessIterUnscaled unbdd infeas) x (c .0) (c .1) (c .2) h
+
+verdict-unnumbered : (par : SolverParam) (k : ℕ) (failure : Failure) (criteria : Criteria) (x : Ending) → verdict par k failure criteria ≡ Ends x → numberOf x ≡ 0
+verdict-unnumbered par k failure criteria x h =
+    verdict-cases (λ e. numberOf e ≡ 0) par k failure criteria x
+    (record { failing = λ b f. refl; converging = λ pri dual gap f c. (refl, refl); diverging = λ unbdd infeas f c. (refl, refl, refl) })
+    h
 
 pub run-unnumbered : (p : Problem) → numberOf (run p .ending) ≡ 0
 run-unnumbered p =
@@ -150,21 +198,33 @@ ran-unnumbered : (p : Problem) (work cone : List Float) → numberOf (leftBy (re
 unfolding leftBy
 ran-unnumbered p work cone = run-unnumbered (readProblem p)
 
-exactly-by : (p : Problem) (work cone : List Float) (ran : Left) → numberOf (ran .answer .ending) ≡ 0 → (r : Refusal) → Says p (length work) (length cone) r → (i : ℕ) → 1 ≤ i → (numberOf (leftAfter r ran work cone .answer .ending) ≡ i) ↔ FirstToHold p (length work) (length cone) i
-exactly-by p work cone ran n accepted s i h = (λ e. absurd (omega arith), λ f. absurd (true≢false (sym (f .holds) ∙ s i)))
-exactly-by p work cone ran n (refused x) s i h = (λ e. rw (← e) s, λ f. only-first p (length work) (length cone) (numberOf x) i s f)
+module _ (p : Problem) (work cone : List Float) where
+  abbrev rows : List (Fact Ending)
+  rows = facts p (length work) (length cone)
 
-unchanged-by : (p : Problem) (work cone : List Float) (ran : Left) (r : Refusal) → Says p (length work) (length cone) r → (i : ℕ) → FirstToHold p (length work) (length cone) i → leftAfter r ran work cone ≡ turnedAway (leftAfter r ran work cone .answer .ending) work cone
-unchanged-by p work cone ran accepted s i f = absurd (true≢false (sym (f .holds) ∙ s i))
-unchanged-by p work cone ran (refused x) s i f = refl
+  -- an accepted run gives no number, and a refusal its own
+  number-given : (ran : Left) → numberOf (ran .answer .ending) ≡ 0 → (r : First Ending) → numberOf (leftAfter (asRefusal r) ran work cone .answer .ending) ≡ numberGiven numberOf r
+  number-given ran n none-applies = n
+  number-given ran n (applies x) = refl
 
-pub turned-away-exactly : (p : Problem) (work cone : List Float) → TurnedAwayExactly p work cone
-unfolding solved
-turned-away-exactly p work cone =
-    record {
-      exactly = exactly-by p work cone (leftBy (readProblem p) work cone (run (readProblem p))) (ran-unnumbered p work cone) (refusal p (length work) (length cone)) (says p (length work) (length cone));
-      changes-nothing = unchanged-by p work cone (leftBy (readProblem p) work cone (run (readProblem p))) (refusal p (length work) (length cone)) (says p (length work) (length cone));
-    }
+  unchanged-by : (ran : Left) (r : First Ending) → Says numberOf 0 rows r → (i : ℕ) → FirstToHold rows i → leftAfter (asRefusal r) ran work cone ≡ turnedAway (leftAfter (asRefusal r) ran work cone .answer .ending) work cone
+  unchanged-by ran none-applies s i f = absurd (true≢false (sym (f .holds) ∙ s i))
+  unchanged-by ran (applies x) s i f = refl
+
+  solved-is : solved p work cone ≡ leftAfter (asRefusal (firstOf rows)) (leftBy (readProblem p) work cone (run (readProblem p))) work cone
+  unfolding solved
+  solved-is = rw (refusal-is p (length work) (length cone))
+
+  pub turned-away-exactly : TurnedAwayExactly p work cone
+  turned-away-exactly =
+      let ran = leftBy (readProblem p) work cone (run (readProblem p)) in
+      let table = table-given p (length work) (length cone) in
+      let number : numberOf (solved p work cone .answer .ending) ≡ numberGiven numberOf (firstOf rows) = rw solved-is (number-given ran (ran-unnumbered p work cone) (firstOf rows)) in
+      record {
+        exactly = λ i h. (λ e. table .refuses i h .0 (sym number ∙ e), λ f. number ∙ table .refuses i h .1 f);
+        none-otherwise = λ n. number ∙ ap (numberGiven numberOf) (table .accepts .1 n);
+        changes-nothing = λ i f. rw solved-is (unchanged-by ran (firstOf rows) (says numberOf 0 rows (numbered p (length work) (length cone))) i f);
+      }
 
 -- ---- the contract
 

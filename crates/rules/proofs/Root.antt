@@ -10,7 +10,7 @@ use lib.Dec.{T, isLe, isEq, leb, leb→le, nleb→lt, eqb→eq}
 use lib.Pow.{pow-pos, pow-mono, pow-add}
 use lib.Ieee.{binary64, size, nearest, odd, units}
 use lib.Ieee.Digits.{size-lt, size-le}
-use Rattle.rules.specs.Root.{rootDigits, wholeRoot, rootOfUnits, root}
+use Rattle.rules.specs.Root.{rootDigits, wholeRoot, rootOfUnits}
 
 -- ---- squares
 
@@ -20,7 +20,7 @@ sq a = a * a
 pub sq-twice : (a : ℕ) → 2 * a * (2 * a) ≡ 4 * (a * a)
 sq-twice a = mul-mul-mul-comm 2 a 2 a
 
-sq-next : (a : ℕ) → (a + 1) * (a + 1) ≡ a * a + 2 * a + 1
+pub sq-next : (a : ℕ) → (a + 1) * (a + 1) ≡ a * a + 2 * a + 1
 sq-next a = mul-add (a + 1) a 1 ∙ ap (λ (x : ℕ). x + (a + 1) * 1) (add-mul a 1 a) ∙ ap (λ (x : ℕ). a * a + 1 * a + x) (mul-one (a + 1)) ∙ sum (a * a) a
   where
     sum : (s a : ℕ) → s + 1 * a + (a + 1) ≡ s + 2 * a + 1
@@ -153,7 +153,7 @@ odd-middle x q n s t e d lo hi p (inr h) =
     up-by-one : (q + 1) * (q + 1) ≡ q * q + 2 * q + 1 → (q + 1) * (q + 1) < n + (q + 1)
     up-by-one r = omega (arith, h .1)
 
-middle-is : (q : ℕ) → (2 * q + 1) * (2 * q + 1) ≡ 4 * (q * q) + 4 * q + 1
+pub middle-is : (q : ℕ) → (2 * q + 1) * (2 * q + 1) ≡ 4 * (q * q) + 4 * q + 1
 middle-is q = sq-next (2 * q) ∙ sum (2 * q * (2 * q)) (q * q) (sq-twice q)
   where
     sum : (a s : ℕ) → a ≡ 4 * s → a + 2 * (2 * q) + 1 ≡ 4 * s + 4 * q + 1

@@ -16,25 +16,26 @@ use Rattle.rules.specs.Projections.{√2, diagonalTimes, unit, projPSD, 
 use Rattle.rules.specs.Product.{Passed, projAll, isNone}
 use Rattle.rules.specs.Problem.{Problem, embed, blocks}
 use Rattle.rules.specs.Step.{State, movedX, projected, updated, xX, xY, xS}
-use Rattle.rules.specs.Prepare.{Norms, preparedNorms}
-use Rattle.rules.specs.Run.{turn, run}
-use Rattle.rules.specs.Demands.{stateAfter, step, rotationsUpTo, pairsTwice, allPairsTwice, RotationsBounded}
+use Rattle.rules.specs.declared.Norms.{Norms}
+use Rattle.rules.specs.Prepare.{prepared, preparedNorms}
+use Rattle.rules.specs.Run.{wholeStep, stateFrom, run}
+use Rattle.rules.specs.Demands.{stepFrom, rotationsFrom, pairsTwice, allPairsTwice, RotationsBounded}
 use Rattle.rules.proofs.Jacobi.{rotations-bounded}
 use Rattle.rules.proofs.KernelLengths.{swept}
 use Rattle.rules.proofs.Run.{ends-first}
 
 -- ---- a block
 
-half-pairs : (limit pairs : ℕ) → 2 * (limit * (pairs / 2)) ≤ limit * pairs
-half-pairs limit pairs =
+half-pairs : (most pairs : ℕ) → 2 * (most * (pairs / 2)) ≤ most * pairs
+half-pairs most pairs =
     let h : pairs / 2 + pairs / 2 ≤ pairs = omega arith in
-    omega (arith, mul-le-mul-left limit h, mul-add limit (pairs / 2) (pairs / 2))
+    omega (arith, mul-le-mul-left most h, mul-add most (pairs / 2) (pairs / 2))
 
-psd-rotations : (par : SolverParam) (d : ℕ) (x work : List Float) → projPSD par d x work .rotations ≡ swept par d x .turning .rotations
+psd-rotations : (par : SolverParam) (d : ℕ) (x work : List Float) → projPSD par d x work .rotations ≡ swept par d x .reached .rotations
 unfolding projPSD
 psd-rotations par d x work = go (swept par d x .succeeded) refl
   where
-    go : (b : Bool) → swept par d x .succeeded ≡ b → projPSD par d x work .rotations ≡ swept par d x .turning .rotations
+    go : (b : Bool) → swept par d x .succeeded ≡ b → projPSD par d x work .rotations ≡ swept par d x .reached .rotations
     go true e = rw e
     go false e = rw e
 
@@ -87,18 +88,18 @@ projected-bounded p x cone = go (isNone (first .failure)) refl
     go true e = rw e (omega (arith, one, two))
     go false e = rw e (omega (arith, one))
 
-turn-bounded : (p : Problem) (ns : Norms) (s : State) → turn p ns s .rotations ≤ p .par .«sweep_limit» * allPairsTwice (blocks p)
-unfolding turn updated
-turn-bounded p ns s = projected-bounded p (movedX p s .x) (movedX p s .cone)
+whole-step-bounded : (p : Problem) (ns : Norms) (s : State) → wholeStep p ns s .rotations ≤ p .par .«sweep_limit» * allPairsTwice (blocks p)
+unfolding wholeStep updated
+whole-step-bounded p ns s = projected-bounded p (movedX p s .x) (movedX p s .cone)
 
--- ---- a run
+-- ---- steps from any state, and a run
 
-steps-bounded : (p : Problem) (k : ℕ) → rotationsUpTo p k ≤ k * (p .par .«sweep_limit» * allPairsTwice (blocks p))
-unfolding rotationsUpTo step
-steps-bounded p zero = omega arith
-steps-bounded p (suc k) =
+pub steps-bounded : (p : Problem) (ns : Norms) (s : State) (k : ℕ) → rotationsFrom p ns s k ≤ k * (p .par .«sweep_limit» * allPairsTwice (blocks p))
+unfolding rotationsFrom stepFrom
+steps-bounded p ns s zero = omega arith
+steps-bounded p ns s (suc k) =
     let most = p .par .«sweep_limit» * allPairsTwice (blocks p) in
-    omega (arith, steps-bounded p k, turn-bounded p (preparedNorms p) (stateAfter p (suc k - 1)), suc-mul k most)
+    omega (arith, steps-bounded p ns s k, whole-step-bounded p ns (stateFrom p ns s (suc k - 1)), suc-mul k most)
 
 pub run-bounded : (p : Problem) → RotationsBounded p (run p)
-run-bounded p = omega (arith, ends-first p .counts, steps-bounded p (run p .steps))
+run-bounded p = omega (arith, ends-first p .counts, steps-bounded p (preparedNorms p) (prepared p) (run p .steps))

@@ -1,4 +1,4 @@
--- Document 01, "What the hub hands over": the cone list. One reading turns its words into blocks; everything else is over the blocks.
+-- Document 01, "What the hub hands over": the cone list. One reading makes blocks of its words; everything else is over the blocks.
 use Prim.Native.Nat.{ℕ, zero, suc, _+_, _/_, _%_}
 use mathlib.Core.Bool.{Bool, true, false, not, cond, _||_}
 use mathlib.Core.List.{List, [], _∷_}

@@ -4,13 +4,15 @@ use mathlib.Core.Bool.{false, cond}
 use mathlib.Core.List.{List, [], _∷_, _++_}
 use lib.Ieee.{Float, inf, lt, neg, add, mul, div}
 use lib.ListN.{drop}
+use Rattle.rules.specs.declared.Criteria.{Criteria}
+use Rattle.rules.specs.declared.Criteria.the-variants.{Conv, Inf}
+use Rattle.rules.specs.declared.Norms.{Norms}
 use Rattle.rules.specs.Helpers.{one, magnitude, reciprocal}
 use Rattle.rules.specs.Arithmetic.{_+ᶠ_, _*ᶠ_, _/ᶠ_, +0, at}
 use Rattle.rules.specs.Vectors.{norm}
 use Rattle.rules.specs.Matrices.{opped, transOpped}
 use Rattle.rules.specs.Problem.{Embed}
 use Rattle.rules.specs.Step.{xX, xY, xS, part, aOp, aTrans, bOp, bTrans, cOp, cTrans}
-use Rattle.rules.specs.Prepare.{Norms}
 
 -- the number tau
 abbrev pub tauOf : Embed → List Float → Float
@@ -76,29 +78,31 @@ ratio eps residual normed by = cond (lt eps by) (residual *ᶠ normed /ᶠ by) (
 
 -- ---- what a step's criteria say, and what they leave in rx
 
-pub data Criteria : Type 0 where
-  conv : Float → Float → Float → Criteria
-  inf? : Float → Float → Criteria
-
 pub record Judged : Type 0 where
   pub criteria : Criteria
   pub rx : List Float
 
-unfoldable pub judged : Embed → Float → Norms → List Float → List Float → Judged
-unfolding primalResidual dualResidual gap ray dualRay minusCX minusBY ratio norm lt add div one
-judged k eps ns x rx =
+-- where tau is above eps_zero, and where it is not
+unfoldable pub converging : Embed → Norms → List Float → List Float → Judged
+unfolding primalResidual dualResidual gap norm add div one
+converging k ns x rx =
     let pri = primalResidual k x in
     let dual = dualResidual k x (part (k .m) (k .n) rx) in
-    let r = ray k x in
-    let e = dualRay k x (part (k .m) (k .n) rx) in
-    let converging : Judged =
     record {
-      criteria = conv (norm pri /ᶠ (one +ᶠ ns .normB)) (norm dual /ᶠ (one +ᶠ ns .normC)) (gap k x);
+      criteria = Conv (norm pri /ᶠ (one +ᶠ ns .b)) (norm dual /ᶠ (one +ᶠ ns .c)) (gap k x);
       rx = withResiduals pri dual k rx;
-    } in
-    let diverging : Judged =
+    }
+
+unfoldable pub diverging : Embed → Float → Norms → List Float → List Float → Judged
+unfolding ray dualRay minusCX minusBY ratio norm
+diverging k eps ns x rx =
+    let pri = ray k x in
+    let dual = dualRay k x (part (k .m) (k .n) rx) in
     record {
-      criteria = inf? (ratio eps (norm r) (ns .normC) (at (minusCX k x) 0)) (ratio eps (norm e) (ns .normB) (at (minusBY k x) 0));
-      rx = withResiduals r e k rx;
-    } in
-    cond (lt eps (tauOf k x)) converging diverging
+      criteria = Inf (ratio eps (norm pri) (ns .c) (at (minusCX k x) 0)) (ratio eps (norm dual) (ns .b) (at (minusBY k x) 0));
+      rx = withResiduals pri dual k rx;
+    }
+
+unfoldable pub judged : Embed → Float → Norms → List Float → List Float → Judged
+unfolding converging diverging lt
+judged k eps ns x rx = cond (lt eps (tauOf k x)) (converging k ns x rx) (diverging k eps ns x rx)

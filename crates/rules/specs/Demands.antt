@@ -1,85 +1,135 @@
 -- The owner's demands, in words over the rules. `proofs/Demands.antt` proves them.
-use Prim.Native.Nat.{ℕ, zero, suc, _+_, _-_, _*_, _≤_, _<_}
+use Prim.Native.Nat.{ℕ, zero, suc, _+_, _-_, _*_, _≤_, _<_, max}
 use mathlib.Core.Path.{_≡_}
-use mathlib.Core.Logic.{_↔_}
+use mathlib.Core.Logic.{_↔_, _⊎_}
 use mathlib.Core.Bool.{Bool, true, false, _&&_, _||_}
 use mathlib.Core.List.{List, [], _∷_}
 use lib.Ieee.{Float, lt, le}
 use lib.ListN.{length, take, drop}
 use Rattle.rules.specs.declared.Cone.{Cone}
 use Rattle.rules.specs.declared.Cone.the-variants.{Zero, RPos, SOC, RotSOC, PSD}
+use Rattle.rules.specs.declared.Answer.{Answer}
+use Rattle.rules.specs.declared.Ending.{Ending}
 use Rattle.rules.specs.declared.Ending.the-variants.{Converged}
-use Rattle.rules.specs.Product.{Failure, none, coneWork}
+use Rattle.rules.specs.Product.{Failure, none, block, coneWork}
 use Rattle.rules.specs.Problem.{Problem, embed, blocks, workLength}
-use Rattle.rules.specs.Step.{State}
-use Rattle.rules.specs.Criteria.{Criteria, conv, inf?, tauOf}
-use Rattle.rules.specs.Prepare.{prepared, preparedNorms}
-use Rattle.rules.specs.Run.{Turn, turn, Verdict, goesOn, ends, verdict, allowance, Ended, run}
-use Rattle.rules.specs.Refusals.{badParam, tooLarge, invalidOp, badCone, notFinite, workShortage, numberOf, solved, turnedAway}
+use Rattle.rules.specs.Step.{State, xX, xY}
+use Rattle.rules.specs.declared.Criteria.{Criteria}
+use Rattle.rules.specs.declared.Criteria.the-variants.{Conv, Inf}
+use Rattle.rules.specs.Criteria.{tauOf}
+use Rattle.rules.specs.declared.Norms.{Norms}
+use Rattle.rules.specs.Prepare.{prepared, preparedNorms, zeros}
+use Rattle.rules.specs.declared.Verdict.{Verdict}
+use Rattle.rules.specs.declared.Verdict.the-variants.{Ends, GoesOn}
+use Rattle.rules.specs.Run.{WholeStep, wholeStep, verdict, allowance, stateFrom, Piece, Ended, isConeFailure, laidOut, solutionX, solutionY}
+use Rattle.rules.specs.Outcome.{Solution, times-1/tau, unscaled, all-zero, ends, onPaper}
+use Rattle.rules.specs.Helpers.{reciprocal}
+use Rattle.rules.specs.Vectors.{scaled}
+use Rattle.rules.specs.Refusals.{Fact, _when_, First, none-applies, applies, firstOf, facts, numberOf, readProblem, solved, turnedAway}
 
 -- ---- demand 1
 
--- the facts of the table, by number
-abbrev pub fact : Problem → ℕ → ℕ → ℕ → Bool
-fact p work cone zero = false
-fact p work cone (suc zero) = badParam (p .par)
-fact p work cone (suc (suc zero)) = tooLarge p
-fact p work cone (suc (suc (suc zero))) = invalidOp p
-fact p work cone (suc (suc (suc (suc zero)))) = badCone p
-fact p work cone (suc (suc (suc (suc (suc zero))))) = notFinite p
-fact p work cone (suc (suc (suc (suc (suc (suc zero)))))) = workShortage p work cone
-fact p work cone (suc (suc (suc (suc (suc (suc (suc i))))))) = false
+-- whether row i of a table of refusals holds, counted from 1
+abbrev pub holdsAt : {R : Type 0} → List (Fact R) → ℕ → Bool
+holdsAt rows zero = false
+holdsAt [] (suc i) = false
+holdsAt ((r when holds) ∷ rows) (suc zero) = holds
+holdsAt (row ∷ rows) (suc (suc i)) = holdsAt rows (suc i)
+
+abbrev pub NoneHolds : {R : Type 0} → List (Fact R) → Type 0
+NoneHolds rows = (i : ℕ) → holdsAt rows i ≡ false
 
 -- fact i holds, and none before it
-pub record FirstToHold (p : Problem) (work cone i : ℕ) : Type 0 where
-  pub holds : fact p work cone i ≡ true
-  pub none-before : (j : ℕ) → j < i → fact p work cone j ≡ false
+pub record FirstToHold {R : Type 0} (rows : List (Fact R)) (i : ℕ) : Type 0 where
+  pub holds : holdsAt rows i ≡ true
+  pub none-before : (j : ℕ) → j < i → holdsAt rows j ≡ false
+
+-- the refusals of a table have the numbers k, k + 1, ..
+abbrev pub NumberedFrom : {R : Type 0} → (R → ℕ) → ℕ → List (Fact R) → Type 0
+NumberedFrom number k [] = Unit
+NumberedFrom number k ((r when holds) ∷ rows) = (number r ≡ k) × NumberedFrom number (suc k) rows
+
+-- the number that is answered, 0 where none is
+abbrev pub numberGiven : {R : Type 0} → (R → ℕ) → First R → ℕ
+numberGiven number none-applies = 0
+numberGiven number (applies r) = number r
+
+-- of any table: refusal i is given exactly when fact i is the first to hold, and none exactly when none holds
+pub record GivenExactly {R : Type 0} (number : R → ℕ) (rows : List (Fact R)) : Type 0 where
+  pub refuses : (i : ℕ) → 1 ≤ i → (numberGiven number (firstOf rows) ≡ i) ↔ FirstToHold rows i
+  pub accepts : (firstOf rows ≡ none-applies) ↔ NoneHolds rows
 
 -- "A refusal has its number, is given exactly when its fact is the first in document 01 to hold, and changes no buffer."
 pub record TurnedAwayExactly (p : Problem) (work cone : List Float) : Type 0 where
-  pub exactly : (i : ℕ) → 1 ≤ i → (numberOf (solved p work cone .answer .ending) ≡ i) ↔ FirstToHold p (length work) (length cone) i
-  pub changes-nothing : (i : ℕ) → FirstToHold p (length work) (length cone) i → solved p work cone ≡ turnedAway (solved p work cone .answer .ending) work cone
+  pub exactly : (i : ℕ) → 1 ≤ i → (numberOf (solved p work cone .answer .ending) ≡ i) ↔ FirstToHold (facts p (length work) (length cone)) i
+  pub none-otherwise : NoneHolds (facts p (length work) (length cone)) → numberOf (solved p work cone .answer .ending) ≡ 0
+  pub changes-nothing : (i : ℕ) → FirstToHold (facts p (length work) (length cone)) i → solved p work cone ≡ turnedAway (solved p work cone .answer .ending) work cone
+
+-- ---- demand 2: `solve` promises `SolveOutcome` (Refusals.antt), that answer and buffers are those of `solved`
 
 -- ---- demand 3, for the problem as the run reads it: "Against 01's step rules written without stopping"
 
--- the state after k steps, and the k-th step, from 1
-unfoldable pub stateAfter : Problem → ℕ → State
-stateAfter p zero = prepared p
-stateAfter p (suc k) = turn p (preparedNorms p) (stateAfter p k) .state
+-- From any state: the i-th further step, from 1, what it says when k steps were behind, and the rotations up to it.
+unfoldable pub stepFrom : Problem → Norms → State → ℕ → WholeStep
+stepFrom p ns s i = wholeStep p ns (stateFrom p ns s (i - 1))
 
-unfoldable pub step : Problem → ℕ → Turn
-step p k = turn p (preparedNorms p) (stateAfter p (k - 1))
+abbrev pub verdictFrom : Problem → Norms → ℕ → State → ℕ → Verdict
+verdictFrom p ns k s i = verdict (p .par) (k + i) (stepFrom p ns s i .failure) (stepFrom p ns s i .criteria)
+
+unfoldable pub rotationsFrom : Problem → Norms → State → ℕ → ℕ
+rotationsFrom p ns s zero = 0
+rotationsFrom p ns s (suc i) = rotationsFrom p ns s i + stepFrom p ns s (suc i) .rotations
+
+-- A piece makes a number of steps. It stops at the first step that does not go on, or halts after as many as it was given, all of which go on.
+pub record GoesByTheRules (given : ℕ) (p : Problem) (ns : Norms) (k q : ℕ) (s : State) (c : Piece) : Type 0 where
+  pub made : ℕ
+  pub at-most : made ≤ given
+  pub steps-are : c .steps ≡ k + made
+  pub state-there : c .state ≡ stateFrom p ns s made
+  pub counts : c .rotations ≡ q + rotationsFrom p ns s made
+  pub not-before : (i : ℕ) → 1 ≤ i → i < made → verdictFrom p ns k s i ≡ GoesOn
+  pub halts : c .said ≡ GoesOn → (made ≡ given) × ((i : ℕ) → 1 ≤ i → i ≤ made → verdictFrom p ns k s i ≡ GoesOn)
+  pub ends : (e : Ending) → c .said ≡ Ends e → (1 ≤ made) × (verdictFrom p ns k s made ≡ Ends e)
+
+-- the whole run's: the state after k steps, the k-th step, from 1, and the rotations up to it
+abbrev pub stateAfter : Problem → ℕ → State
+stateAfter p k = stateFrom p (preparedNorms p) (prepared p) k
+
+abbrev pub step : Problem → ℕ → WholeStep
+step p k = stepFrom p (preparedNorms p) (prepared p) k
+
+abbrev pub tauAfter : Problem → ℕ → Float
+tauAfter p k = tauOf (embed p) (stateAfter p k .x)
 
 abbrev pub verdictAt : Problem → ℕ → Verdict
 verdictAt p k = verdict (p .par) k (step p k .failure) (step p k .criteria)
 
-unfoldable pub rotationsUpTo : Problem → ℕ → ℕ
-rotationsUpTo p zero = 0
-rotationsUpTo p (suc k) = rotationsUpTo p k + step p (suc k) .rotations
+abbrev pub rotationsUpTo : Problem → ℕ → ℕ
+rotationsUpTo p k = rotationsFrom p (preparedNorms p) (prepared p) k
 
 -- "k is the first step where a cone fails, an ending test holds or the allowance is met, never above max(max_iter, 1)."
 pub record EndsFirst (p : Problem) (e : Ended) : Type 0 where
   pub at-least-one : 1 ≤ e .steps
   pub at-most : e .steps ≤ allowance (p .par)
-  pub ends-there : verdictAt p (e .steps) ≡ ends (e .ending)
-  pub not-before : (k : ℕ) → 1 ≤ k → k < e .steps → verdictAt p k ≡ goesOn
+  pub ends-there : verdictAt p (e .steps) ≡ Ends (e .ending)
+  pub not-before : (k : ℕ) → 1 ≤ k → k < e .steps → verdictAt p k ≡ GoesOn
   pub state-there : e .state ≡ stateAfter p (e .steps)
   -- "q counts the rotations of those k steps"
   pub counts : e .rotations ≡ rotationsUpTo p (e .steps)
 
 -- a cone fails, an ending test holds, or the allowance is met
 abbrev pub endingTest : Problem → Criteria → Bool
-endingTest p (conv pri dual gap) = le pri (p .par .«eps_acc») && le dual (p .par .«eps_acc») && le gap (p .par .«eps_acc»)
-endingTest p (inf? unbdd infeas) = le unbdd (p .par .«eps_inf») || le infeas (p .par .«eps_inf»)
+endingTest p (Conv pri dual gap) = le pri (p .par .«eps_acc») && le dual (p .par .«eps_acc») && le gap (p .par .«eps_acc»)
+endingTest p (Inf unbdd infeas) = le unbdd (p .par .«eps_inf») || le infeas (p .par .«eps_inf»)
 
 pub record GoesOnExactly (p : Problem) (k : ℕ) (failure : Failure) (criteria : Criteria) : Type 0 where
-  pub exactly : (verdict (p .par) k failure criteria ≡ goesOn) ↔ ((failure ≡ none) × (endingTest p criteria ≡ false) × (k < allowance (p .par)))
+  pub exactly : (verdict (p .par) k failure criteria ≡ GoesOn) ↔ ((failure ≡ none) × (endingTest p criteria ≡ false) × (k < allowance (p .par)))
 
 -- "Converged is answered exactly when at step k no cone failed, tau > eps_zero and all three criteria are at most eps_acc."
-pub record ConvergedTest (p : Problem) (t : Turn) (pri dual gap : Float) : Type 0 where
+pub record ConvergedTest (p : Problem) (t : WholeStep) (pri dual gap : Float) : Type 0 where
   pub no-cone-failed : t .failure ≡ none
   pub tau-above : lt (p .par .«eps_zero») (tauOf (embed p) (t .state .x)) ≡ true
-  pub criteria-are : t .criteria ≡ conv pri dual gap
+  pub criteria-are : t .criteria ≡ Conv pri dual gap
   pub primal-small : le pri (p .par .«eps_acc») ≡ true
   pub dual-small : le dual (p .par .«eps_acc») ≡ true
   pub gap-small : le gap (p .par .«eps_acc») ≡ true
@@ -103,15 +153,75 @@ allPairsTwice (b ∷ bs) = pairsTwice b + allPairsTwice bs
 abbrev pub RotationsBounded : Problem → Ended → Type 0
 RotationsBounded p e = e .rotations ≤ e .steps * (p .par .«sweep_limit» * allPairsTwice (blocks p))
 
+-- ---- demand 3 in one: what `solve` answers and leaves where no fact of the table holds
+
+-- step k goes on: no cone fails, no ending test holds and the allowance is not met
+pub record GoesOnAt (p : Problem) (k : ℕ) : Type 0 where
+  pub no-cone-fails : step p k .failure ≡ none
+  pub no-test-holds : endingTest p (step p k .criteria) ≡ false
+  pub not-met : k < allowance (p .par)
+
+-- "a cone fails, an ending test holds or the allowance is met"
+pub data StopsAt (p : Problem) (k : ℕ) : Type 0 where
+  cone-fails : (b : ℕ) → step p k .failure ≡ block b → StopsAt p k
+  test-holds : endingTest p (step p k .criteria) ≡ true → StopsAt p k
+  allowance-met : k ≡ allowance (p .par) → StopsAt p k
+
+-- "Each ending carries the criteria that decided it as numbers": of a step's criteria those that a row of the table carries
+abbrev pub CarriedAt : Criteria → ℕ → List Float → Type 0
+CarriedAt (Conv pri dual gap) row carried = ((row ≡ 1) ⊎ (row ≡ 2)) × (carried ≡ pri ∷ dual ∷ gap ∷ [])
+CarriedAt (Inf unbdd infeas) row carried =
+    ((row ≡ 3) × (carried ≡ unbdd ∷ infeas ∷ [])) ⊎ (((row ≡ 4) × (carried ≡ unbdd ∷ [])) ⊎ ((row ≡ 5) × (carried ≡ infeas ∷ [])))
+
+-- "x and y in work: times 1/tau / unscaled / +0"
+abbrev pub handedBack : Solution → Float → List Float → List Float
+handedBack times-1/tau tau v = scaled (reciprocal tau) v
+handedBack unscaled tau v = v
+handedBack all-zero tau v = zeros (length v)
+
+-- Of the problem as it is read: the answer, and what stands in both buffers afterwards.
+pub record AnsweredByTheRules (p : Problem) (answer : Answer) (work cone : List Float) : Type 0 where
+  -- "k is the first step where a cone fails, an ending test holds or the allowance is met, never above max(max_iter, 1)."
+  pub at-least-one : 1 ≤ answer .steps
+  pub at-most : answer .steps ≤ max (p .par .«max_iter») 1
+  pub stops-there : StopsAt p (answer .steps)
+  pub goes-on-before : (k : ℕ) → 1 ≤ k → k < answer .steps → GoesOnAt p k
+  -- the ending: what step k says, and its row of the table of endings, with the criteria that it carries and the block that failed
+  pub says : verdictAt p (answer .steps) ≡ Ends (answer .ending)
+  pub row : ℕ
+  pub carried : List Float
+  pub failed : Failure
+  pub solution : Solution
+  pub on-paper : onPaper (answer .ending) ≡ ends row carried failed solution
+  pub carried-there : failed ≡ none → CarriedAt (step p (answer .steps) .criteria) row carried
+  pub failed-there : failed ≡ step p (answer .steps) .failure
+  pub converged : (pri dual gap : Float) → (answer .ending ≡ Converged pri dual gap) ↔ ConvergedTest p (step p (answer .steps)) pri dual gap
+  -- "q counts the rotations of those k steps, at most k × sweep limit × the sum of d(d−1) over semidefinite blocks of order d"
+  pub counts : answer .rotations ≡ rotationsUpTo p (answer .steps)
+  pub bounded : answer .rotations ≤ answer .steps * (p .par .«sweep_limit» * allPairsTwice (blocks p))
+  -- x and y as they are handed back, of the state after k steps
+  pub x-back : solutionX (p .n) work ≡ handedBack solution (tauAfter p (answer .steps)) (xX (embed p) (stateAfter p (answer .steps) .x))
+  pub y-back : solutionY (p .m) (p .n) work ≡ handedBack solution (tauAfter p (answer .steps)) (xY (embed p) (stateAfter p (answer .steps) .x))
+  -- all of the required parts: as step k left them, but for x and y, or "required part of both buffers +0"
+  pub laid : isConeFailure (answer .ending) ≡ false → (take (workLength (p .m) (p .n)) work ≡ laidOut p (answer .ending) (stateAfter p (answer .steps))) × (take (coneWork (blocks p)) cone ≡ stateAfter p (answer .steps) .cone)
+  pub zeroed : solution ≡ all-zero → (take (workLength (p .m) (p .n)) work ≡ zeros (workLength (p .m) (p .n))) × (take (coneWork (blocks p)) cone ≡ zeros (coneWork (blocks p)))
+
+-- the required parts of both buffers, for the problem as it is read
+abbrev pub workNeeded : Problem → ℕ
+workNeeded p = workLength (readProblem p .m) (readProblem p .n)
+
+abbrev pub coneNeeded : Problem → ℕ
+coneNeeded p = coneWork (blocks (readProblem p))
+
 -- "What the buffers held before changes none of it": two pairs of buffers, long enough for the problem
 pub record OldContentsChangeNothing (p : Problem) (work cone work' cone' : List Float) : Type 0 where
   pub answer : solved p work cone .answer ≡ solved p work' cone' .answer
-  pub work-required : take (workLength (p .m) (p .n)) (solved p work cone .work) ≡ take (workLength (p .m) (p .n)) (solved p work' cone' .work)
-  pub cone-required : take (coneWork (blocks p)) (solved p work cone .cone) ≡ take (coneWork (blocks p)) (solved p work' cone' .cone)
+  pub work-required : take (workNeeded p) (solved p work cone .work) ≡ take (workNeeded p) (solved p work' cone' .work)
+  pub cone-required : take (coneNeeded p) (solved p work cone .cone) ≡ take (coneNeeded p) (solved p work' cone' .cone)
 
 -- "places beyond it are never changed": of both buffers, with any contents and on refusal too
 pub record PlacesBeyondKept (p : Problem) (work cone : List Float) : Type 0 where
   pub work-length : length (solved p work cone .work) ≡ length work
   pub cone-length : length (solved p work cone .cone) ≡ length cone
-  pub work-beyond : drop (workLength (p .m) (p .n)) (solved p work cone .work) ≡ drop (workLength (p .m) (p .n)) work
-  pub cone-beyond : drop (coneWork (blocks p)) (solved p work cone .cone) ≡ drop (coneWork (blocks p)) cone
+  pub work-beyond : drop (workNeeded p) (solved p work cone .work) ≡ drop (workNeeded p) work
+  pub cone-beyond : drop (coneNeeded p) (solved p work cone .cone) ≡ drop (coneNeeded p) cone

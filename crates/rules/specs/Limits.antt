@@ -1,5 +1,5 @@
 -- Document 01, "What the hub hands over": the limits. The code has the same numbers as constants of this crate.
-use Prim.Native.Nat.{ℕ}
+use Prim.Native.Nat.{ℕ, _-_, _/_, _^_}
 
 -- "n, m: 0 to 256"
 abbrev pub limit : ℕ
@@ -17,6 +17,6 @@ mostSteps = 1000000
 abbrev pub mostSweeps : ℕ
 mostSweeps = 64
 
--- No limit of document 01, and beyond every machine: so few places that the rotations of a list of blocks, at most 64 a place, fit 64 bits.
+-- No limit of document 01, and beyond every machine: so few places that the rotations of a list of blocks, at most mostSweeps a place, fit 64 bits.
 abbrev pub mostPlaces : ℕ
-mostPlaces = 288230376151711743
+mostPlaces = (2 ^ 64 - 1) / mostSweeps

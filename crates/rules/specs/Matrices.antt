@@ -1,7 +1,7 @@
 -- Document 01, "Port order", 2 and 3: the matrix routines of floatgeneric.rs and matop.rs. What dense and packed share is said once, over `entry`.
 use Prim.Native.Nat.{ℕ, suc, _+_, _-_, _*_, _/_, _≤_}
 use mathlib.Core.Path.{_≡_}
-use mathlib.Core.Bool.{Bool, cond, _&&_, _||_}
+use mathlib.Core.Bool.{Bool, true, false, cond, _&&_, _||_}
 use mathlib.Core.List.{List}
 use lib.Dec.{leb, ltb, eqb}
 use lib.Ieee.{Float, add, mul}
@@ -30,22 +30,27 @@ abbrev pub storedLength : MatType → ℕ
 storedLength (General rows cols) = rows .0 * cols .0
 storedLength (SymPack rows) = triangle (rows .0)
 
--- where the entry of row r and column c is stored: by columns, and of a symmetric matrix the one with r ≤ c
+-- where the entry of row r and column c of a packed triangle is stored: by columns, the one with r ≤ c
+unfoldable pub packedPlace : ℕ → ℕ → ℕ
+packedPlace r c = cond (ltb r c) (triangle c + r) (triangle r + c)
+
+-- and of a matrix of either kind
 unfoldable pub place : MatType → ℕ → ℕ → ℕ
+unfolding packedPlace
 place (General rows cols) r c = c * rows .0 + r
-place (SymPack rows) r c = cond (ltb r c) (triangle c + r) (triangle r + c)
+place (SymPack rows) r c = packedPlace r c
 
 unfoldable pub entry : MatType → List Float → ℕ → ℕ → Float
 unfolding place
 entry t mat r c = at mat (place t r c)
 
--- the matrix turned over: its rows are the columns
-abbrev pub flipped : (ℕ → ℕ → Float) → ℕ → ℕ → Float
-flipped entries r c = entries c r
+-- the matrix transposed: its rows are the columns
+abbrev pub transposed : (ℕ → ℕ → Float) → ℕ → ℕ → Float
+transposed entries r c = entries c r
 
--- the matrix, or the matrix turned over
+-- the matrix, or the matrix transposed
 abbrev pub entries : Bool → MatType → List Float → ℕ → ℕ → Float
-entries transpose t mat = cond transpose (flipped (entry t mat)) (entry t mat)
+entries transpose t mat = cond transpose (transposed (entry t mat)) (entry t mat)
 
 abbrev pub height : Bool → MatType → ℕ
 height transpose t = cond transpose (nCol t) (nRow t)
@@ -72,7 +77,7 @@ opped t alpha mat x beta y = cond (isEmpty t) (scaled beta y) (transformed alpha
 
 unfoldable pub transOpped : MatType → Float → List Float → List Float → Float → List Float → List Float
 unfolding transformed scaled entry
-transOpped t alpha mat x beta y = cond (isEmpty t) (scaled beta y) (transformed alpha (flipped (entry t mat)) x beta y)
+transOpped t alpha mat x beta y = cond (isEmpty t) (scaled beta y) (transformed alpha (transposed (entry t mat)) x beta y)
 
 -- ---- absolute sums
 
@@ -91,7 +96,7 @@ absaddedCols (SymPack rows) mat y = each (λ r v. packedSum (entry (SymPack rows
 
 unfoldable pub absaddedRows : MatType → List Float → List Float → List Float
 unfolding each entry sumFrom magnitude add
-absaddedRows (General rows cols) mat y = each (λ r v. colSum (flipped (entry (General rows cols) mat)) (cols .0) r +ᶠ v) y
+absaddedRows (General rows cols) mat y = each (λ r v. colSum (transposed (entry (General rows cols) mat)) (cols .0) r +ᶠ v) y
 absaddedRows (SymPack rows) mat y = each (λ r v. packedSum (entry (SymPack rows) mat) (rows .0) r v) y
 
 -- ---- what fits: rows and columns within the limits, and each length as the sizes say
@@ -105,17 +110,22 @@ pub record Stored (t : MatType) (mat : List Float) : Type 0 where
   pub cols : nCol t ≤ limit
   pub all : length mat ≡ storedLength t
 
-abbrev pub transformFits : Bool → MatType → List Float → List Float → List Float → Bool
-transformFits transpose t mat x y = storedFits t mat && eqb (length x) (width transpose t) && eqb (length y) (height transpose t)
-
-abbrev pub opFits : MatType → List Float → List Float → List Float → Bool
-opFits t mat x y = storedFits t mat && eqb (length x) (nCol t) && eqb (length y) (nRow t)
-
-abbrev pub transOpFits : MatType → List Float → List Float → List Float → Bool
-transOpFits t mat x y = storedFits t mat && eqb (length x) (nRow t) && eqb (length y) (nCol t)
+-- a number for each column of the matrix, or of the matrix transposed
+abbrev pub lineFits : Bool → MatType → List Float → List Float → Bool
+lineFits transpose t mat x = storedFits t mat && eqb (length x) (width transpose t)
 
 abbrev pub colsFit : MatType → List Float → List Float → Bool
-colsFit t mat y = storedFits t mat && eqb (length y) (nCol t)
+colsFit t mat y = lineFits false t mat y
 
 abbrev pub rowsFit : MatType → List Float → List Float → Bool
-rowsFit t mat y = storedFits t mat && eqb (length y) (nRow t)
+rowsFit t mat y = lineFits true t mat y
+
+-- and one in y for each row
+abbrev pub transformFits : Bool → MatType → List Float → List Float → List Float → Bool
+transformFits transpose t mat x y = lineFits transpose t mat x && eqb (length y) (height transpose t)
+
+abbrev pub opFits : MatType → List Float → List Float → List Float → Bool
+opFits t mat x y = transformFits false t mat x y
+
+abbrev pub transOpFits : MatType → List Float → List Float → List Float → Bool
+transOpFits t mat x y = transformFits true t mat x y

@@ -9,13 +9,21 @@ use Rattle.rules.specs.declared.SolverParam.{SolverParam}
 abbrev pub oneOver : ℕ → Float
 oneOver n = round binary64 false 1 n
 
+-- the parameters with these limits and tolerances, and the same but for eps_zero: the one place where parameters are made, and its use
+abbrev pub paramOf : ℕ → Float → Float → Float → ℕ → SolverParam
+paramOf maxIter epsAcc epsInf epsZero sweepLimit =
+    record {
+      «max_iter» = maxIter;
+      «eps_acc» = epsAcc;
+      «eps_inf» = epsInf;
+      «eps_zero» = epsZero;
+      «sweep_limit» = sweepLimit;
+    }
+
+abbrev pub withEpsZero : SolverParam → Float → SolverParam
+withEpsZero par epsZero = paramOf (par .«max_iter») (par .«eps_acc») (par .«eps_inf») epsZero (par .«sweep_limit»)
+
 unfoldable pub defaults : ℕ → ℕ → SolverParam
 unfolding round
 defaults maxIter sweepLimit =
-    record {
-      «max_iter» = maxIter;
-      «eps_acc» = oneOver 1_000_000;
-      «eps_inf» = oneOver 1_000_000;
-      «eps_zero» = oneOver 1_000_000_000_000;
-      «sweep_limit» = sweepLimit;
-    }
+    paramOf maxIter (oneOver 1_000_000) (oneOver 1_000_000) (oneOver 1_000_000_000_000) sweepLimit

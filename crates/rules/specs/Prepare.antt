@@ -3,6 +3,7 @@ use Prim.Native.Nat.{ℕ, _+_}
 use mathlib.Core.List.{List, [], _∷_, _++_}
 use lib.Ieee.{Float, binary64, add, mul}
 use lib.ListN.{take, drop, set, replicate}
+use Rattle.rules.specs.declared.Norms.{Norms}
 use Rattle.rules.specs.Helpers.{one, larger, reciprocal}
 use Rattle.rules.specs.Root.{root}
 use Rattle.rules.specs.Arithmetic.{_+ᶠ_, _*ᶠ_, +0, each}
@@ -33,13 +34,9 @@ unfoldable pub withC : Embed → List Float → List Float
 unfolding columnIn
 withC k x = columnIn (k .n) (k .c) (take (k .n) x) ++ drop (k .n) x
 
-pub record Norms : Type 0 where
-  pub normB : Float
-  pub normC : Float
-
 unfoldable pub norms : Embed → List Float → Norms
 unfolding withB withC frNorm
-norms k x = record { normB = frNorm (take (k .m) (withB k x)); normC = frNorm (take (k .n) (withC k (withB k x))) }
+norms k x = record { b = frNorm (take (k .m) (withB k x)); c = frNorm (take (k .n) (withC k (withB k x))) }
 
 -- "Then x and y are multiplied by 0 and tau is set to 1."
 unfoldable pub startX : Embed → List Float → List Float

@@ -8,8 +8,10 @@ use Rattle.rules.specs.declared.MatType.the-variants.{General, SymPack}
 use Rattle.rules.specs.declared.Storage.{Storage}
 use Rattle.rules.specs.declared.Storage.the-variants.{Dense, Packed}
 use Rattle.rules.specs.declared.Cone.{Cone}
+use Rattle.rules.specs.declared.Shape.{Shape}
 use Rattle.rules.specs.declared.SolverParam.{SolverParam}
 use Rattle.rules.specs.Arithmetic.{+0}
+use Rattle.rules.specs.Parameters.{withEpsZero}
 use Rattle.rules.specs.Blocks.{blocksOf}
 
 -- "A problem is c (n numbers), A (m by n, ..), b (m numbers), a cone list and parameters"
@@ -28,9 +30,20 @@ abbrev pub problemOf : ℕ → ℕ → Storage → List Float → List Float →
 problemOf m n storage c a b words par =
     record { m = m; n = n; storage = storage; c = c; a = a; b = b; words = words; par = par }
 
+-- the same, its sizes and storage in one
+abbrev pub problemIn : Shape → List Float → List Float → List Float → List ℕ → SolverParam → Problem
+problemIn shape c a b words par = problemOf (shape .rows .0) (shape .cols .0) (shape .storage) c a b words par
+
+-- the sizes and the storage of a problem
+abbrev pub shapeOf : Problem → Shape
+shapeOf p = record { rows = record { 0 = p .m }; cols = record { 0 = p .n }; storage = p .storage }
+
 abbrev pub matrixOf : Storage → ℕ → ℕ → MatType
 matrixOf Dense m n = General (record { 0 = m }) (record { 0 = n })
 matrixOf Packed m n = SymPack (record { 0 = m })
+
+abbrev pub matrixIn : Shape → MatType
+matrixIn shape = matrixOf (shape .storage) (shape .rows .0) (shape .cols .0)
 
 -- "c and b act as dense matrices of one column"
 abbrev pub column : ℕ → MatType
@@ -51,6 +64,17 @@ pub record Embed : Type 0 where
 abbrev pub embed : Problem → Embed
 embed p = record { m = p .m; n = p .n; t = matrix p; c = p .c; a = p .a; b = p .b }
 
+abbrev pub embedIn : Shape → List Float → List Float → List Float → Embed
+embedIn shape c a b =
+    record {
+      m = shape .rows .0;
+      n = shape .cols .0;
+      t = matrixIn shape;
+      c = c;
+      a = a;
+      b = b;
+    }
+
 abbrev pub blocks : Problem → List Cone
 blocks p = blocksOf (p .words)
 
@@ -61,14 +85,7 @@ epsZero par = cond (eq (par .«eps_zero») +0) +0 (par .«eps_zero»)
 
 unfoldable pub asRead : SolverParam → SolverParam
 unfolding epsZero
-asRead par =
-    record {
-      «max_iter» = par .«max_iter»;
-      «eps_acc» = par .«eps_acc»;
-      «eps_inf» = par .«eps_inf»;
-      «eps_zero» = epsZero par;
-      «sweep_limit» = par .«sweep_limit»;
-    }
+asRead par = withEpsZero par (epsZero par)
 
 -- the lengths of x (n, dual m, primal m, tau) and of y (n, m, 1)
 abbrev pub lengthX : ℕ → ℕ → ℕ

@@ -11,14 +11,15 @@ use Rattle.rules.specs.declared.Cone.the-variants.{Zero, RPos, SOC, RotS
 use Rattle.rules.specs.declared.Projection.{Projection}
 use Rattle.rules.specs.declared.Projection.the-variants.{Done, Failed, No}
 use Rattle.rules.specs.declared.SolverParam.{SolverParam}
-use Rattle.rules.specs.Limits.{limit, mostSweeps}
+use Rattle.rules.specs.Limits.{limit}
 use Rattle.rules.specs.Helpers.{larger, one, reciprocal}
 use Rattle.rules.specs.Root.{root}
 use Rattle.rules.specs.Arithmetic.{_+ᶠ_, _-ᶠ_, _*ᶠ_, _/ᶠ_, +0, each, tabulate, byColumns}
 use Rattle.rules.specs.Vectors.{norm, scaled}
 use Rattle.rules.specs.Matrices.{entry}
 use Rattle.rules.specs.Blocks.{places}
-use Rattle.rules.specs.Jacobi.{Turning, two, packed, square, inPacked, inSquare, sweeps}
+use Rattle.rules.specs.Jacobi.{two, packed, square, inPacked, inSquare, sweeps, jacobi}
+pub use Rattle.rules.specs.Jacobi.{sweepsFit}
 
 -- "Zero: the dual is untouched, the primal is multiplied by 0."
 unfoldable pub projZero : Bool → List Float → List Float
@@ -44,18 +45,18 @@ abbrev pub √2 : Float
 √2 = root binary64 two
 
 -- "(r+s)/√2 and (r−s)/√2"
-unfoldable pub halfTurn : List Float → List Float
+unfoldable pub reflected : List Float → List Float
 unfolding root one add sub div
-halfTurn [] = []
-halfTurn (r ∷ []) = r ∷ []
-halfTurn (r ∷ s ∷ rest) = (r +ᶠ s) /ᶠ √2 ∷ (r -ᶠ s) /ᶠ √2 ∷ rest
+reflected [] = []
+reflected (r ∷ []) = r ∷ []
+reflected (r ∷ s ∷ rest) = (r +ᶠ s) /ᶠ √2 ∷ (r -ᶠ s) /ᶠ √2 ∷ rest
 
 -- "Rotated: size 1 is the larger of it and 0; otherwise (r+s)/√2 and (r−s)/√2 before and after."
 unfoldable pub projRotSOC : List Float → List Float
-unfolding larger projSOC halfTurn
+unfolding larger projSOC reflected
 projRotSOC [] = []
 projRotSOC (r ∷ []) = larger r +0 ∷ []
-projRotSOC (r ∷ s ∷ rest) = halfTurn (projSOC (halfTurn (r ∷ s ∷ rest)))
+projRotSOC (r ∷ s ∷ rest) = reflected (projSOC (reflected (r ∷ s ∷ rest)))
 
 -- ---- semidefinite
 
@@ -68,7 +69,8 @@ unfoldable pub unit : ℕ → List Float
 unfolding byColumns one
 unit n = square n (λ r c. cond (eqb r c) one +0)
 
--- "eigenvalues above 0 build the matrix anew": what the first k of them add up to in row r and column c, the last one first
+-- "eigenvalues above 0 build the matrix anew": what the first k of them come to in row r and column c. The sum starts at +0 and goes by rising index,
+-- and each term stands before the sum so far.
 unfoldable pub rebuiltEntry : (ℕ → Float) → (ℕ → ℕ → Float) → ℕ → ℕ → ℕ → Float
 unfolding lt add mul
 rebuiltEntry values z zero r c = +0
@@ -89,9 +91,8 @@ pub record Projected : Type 0 where
 unfoldable pub projPSD : SolverParam → ℕ → List Float → List Float → Projected
 unfolding diagonalTimes unit sweeps rebuiltEntry byColumns tabulate entry reciprocal mul
 projPSD par n x work =
-    let start : Turning = record { matrix = diagonalTimes √2 n x; vectors = unit n; rotations = 0 } in
-    let swept = sweeps n (par .«eps_zero» *ᶠ par .«eps_zero») (par .«sweep_limit») start in
-    let m = swept .turning in
+    let swept = jacobi par n (diagonalTimes √2 n x) (unit n) in
+    let m = swept .reached in
     let value : ℕ → Float = λ i. inPacked n (m .matrix) i i in
     let rebuilt = packed n (rebuiltEntry value (inSquare n (m .vectors)) n) in
     let rest = drop (n + n * n) work in
@@ -114,9 +115,6 @@ projBlock par dual (PSD order) x work = projPSD par order x work
 
 -- ---- what fits, and the complete outcome
 
-abbrev pub sweepsFit : SolverParam → Bool
-sweepsFit par = leb 1 (par .«sweep_limit») && leb (par .«sweep_limit») mostSweeps
-
 -- how much cone work a block needs
 abbrev pub blockWork : Cone → ℕ
 blockWork (Zero size) = 0
@@ -125,7 +123,7 @@ blockWork (SOC size) = 0
 blockWork (RotSOC size) = 0
 blockWork (PSD order) = order + order * order
 
--- a block within the limit, for that many places and that much cone work
+-- a block within the limit, for that many places and that much cone work, and a sweep limit within its range
 abbrev pub sizesFit : SolverParam → Cone → ℕ → ℕ → Bool
 sizesFit par b size work = leb (places b) limit && eqb size (places b) && leb (blockWork b) work && sweepsFit par
 

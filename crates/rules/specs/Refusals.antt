@@ -1,6 +1,6 @@
 -- Document 01, "When the hub is turned away": "Tests run in this order; the first that applies answers, and none is given otherwise. k = q = 0, and both
 -- buffers keep their contents."
-use Prim.Native.Nat.{ℕ, zero, _+_}
+use Prim.Native.Nat.{ℕ}
 use mathlib.Core.Path.{_≡_}
 use mathlib.Core.Bool.{Bool, true, false, not, cond, _&&_, _||_}
 use mathlib.Core.List.{List, [], _∷_}
@@ -9,18 +9,27 @@ use lib.Ieee.{Float, nan, inf, fin, lt}
 use lib.ListN.{length}
 use Rattle.rules.specs.declared.Answer.{Answer}
 use Rattle.rules.specs.declared.Ending.{Ending}
-use Rattle.rules.specs.declared.Ending.the-variants.{BadParam, TooLarge, InvalidOp, BadCone, NotFinite, WorkShortage, Converged, ExcessIter, ExcessIterUnscaled, Unbounded, Infeasible, ConeFailure}
+use Rattle.rules.specs.declared.Ending.the-variants.{BadParam, TooLarge, InvalidOp, BadCone, NotFinite, WorkShortage}
 use Rattle.rules.specs.declared.SolverParam.{SolverParam}
 use Rattle.rules.specs.declared.Storage.{Storage}
 use Rattle.rules.specs.declared.Storage.the-variants.{Dense, Packed}
+use Rattle.rules.specs.declared.Refusal.{Refusal}
+use Rattle.rules.specs.declared.Refusal.the-variants.{Accepted, Refused}
 use Rattle.rules.specs.Limits.{limit, mostWords, mostSteps}
 use Rattle.rules.specs.Arithmetic.{+0}
 use Rattle.rules.specs.Matrices.{storedLength}
 use Rattle.rules.specs.Blocks.{isBadCone, blocksOf}
 use Rattle.rules.specs.Projections.{sweepsFit}
 use Rattle.rules.specs.Product.{coneWork}
-use Rattle.rules.specs.Problem.{Problem, matrix, blocks, workLength, asRead}
+use Rattle.rules.specs.Problem.{Problem, matrixOf, workLength, asRead}
+use Rattle.rules.specs.Outcome.{OnPaper, turned-away, ends, onPaper}
 use Rattle.rules.specs.Run.{Left, run, leftBy}
+
+-- the problem as the run reads it
+unfoldable pub readProblem : Problem → Problem
+unfolding asRead
+readProblem p =
+    record { m = p .m; n = p .n; storage = p .storage; c = p .c; a = p .a; b = p .b; words = p .words; par = asRead (p .par) }
 
 abbrev pub isFinite : Float → Bool
 isFinite nan = false
@@ -32,87 +41,106 @@ allFinite [] = true
 allFinite (x ∷ xs) = isFinite x && allFinite xs
 
 -- 1: "an eps is not finite, eps_zero < 0, max_iter or sweep limit outside its range"
+abbrev pub badTolerance : SolverParam → Bool
+badTolerance par =
+    not (isFinite (par .«eps_acc»)) || not (isFinite (par .«eps_inf»)) || not (isFinite (par .«eps_zero»)) || lt (par .«eps_zero») +0
+
 unfoldable pub badParam : SolverParam → Bool
 unfolding lt
-badParam par =
-    not (isFinite (par .«eps_acc»)) || not (isFinite (par .«eps_inf»)) || not (isFinite (par .«eps_zero»))
-    || lt (par .«eps_zero») +0 || ltb mostSteps (par .«max_iter») || not (sweepsFit par)
+badParam par = badTolerance par || ltb mostSteps (par .«max_iter») || not (sweepsFit par)
 
 -- 2: "n or m above 256, or more than 32 cone words"
+abbrev pub largeSizes : ℕ → ℕ → List ℕ → Bool
+largeSizes m n words = ltb limit n || ltb limit m || ltb mostWords (length words)
+
 unfoldable pub tooLarge : Problem → Bool
-tooLarge p = ltb limit (p .n) || ltb limit (p .m) || ltb mostWords (length (p .words))
+tooLarge p = largeSizes (p .m) (p .n) (p .words)
 
 -- 3: "c, A or b of the wrong length, or packed with m ≠ n"
 abbrev pub isPacked : Storage → Bool
 isPacked Dense = false
 isPacked Packed = true
 
-unfoldable pub invalidOp : Problem → Bool
-invalidOp p =
-    not (eqb (length (p .c)) (p .n)) || (isPacked (p .storage) && not (eqb (p .m) (p .n)))
-    || not (eqb (length (p .a)) (storedLength (matrix p))) || not (eqb (length (p .b)) (p .m))
+abbrev pub wrongLengths : ℕ → ℕ → Storage → List Float → List Float → List Float → Bool
+wrongLengths m n storage c a b =
+    not (eqb (length c) n) || (isPacked storage && not (eqb m n))
+    || not (eqb (length a) (storedLength (matrixOf storage m n))) || not (eqb (length b) m)
 
--- 4: "a reserved kind, a kind 4 size not triangular, or sizes not summing to m"
+unfoldable pub invalidOp : Problem → Bool
+invalidOp p = wrongLengths (p .m) (p .n) (p .storage) (p .c) (p .a) (p .b)
+
+-- 4: "a reserved kind, a kind 4 size not triangular, or sizes not summing to m": of the list as it is read
 unfoldable pub badCone : Problem → Bool
-unfolding isBadCone
-badCone p = isBadCone (p .words) (p .m)
+unfolding isBadCone readProblem
+badCone p = isBadCone (readProblem p .words) (readProblem p .m)
 
 -- 5: "a number of c, A or b is infinite or NaN"
+abbrev pub someNotFinite : List Float → List Float → List Float → Bool
+someNotFinite c a b = not (allFinite c) || not (allFinite a) || not (allFinite b)
+
 unfoldable pub notFinite : Problem → Bool
 unfolding allFinite
-notFinite p = not (allFinite (p .c)) || not (allFinite (p .a)) || not (allFinite (p .b))
+notFinite p = someNotFinite (p .c) (p .a) (p .b)
 
--- 6: "either buffer too short"
+-- 6: "either buffer too short", for the problem as it is read
+abbrev pub shortBuffers : ℕ → ℕ → List ℕ → ℕ → ℕ → Bool
+shortBuffers m n words work cone = ltb work (workLength m n) || ltb cone (coneWork (blocksOf words))
+
 unfoldable pub workShortage : Problem → ℕ → ℕ → Bool
-unfolding coneWork blocksOf
-workShortage p work cone = ltb work (workLength (p .m) (p .n)) || ltb cone (coneWork (blocks p))
+unfolding coneWork blocksOf readProblem
+workShortage p work cone = shortBuffers (readProblem p .m) (readProblem p .n) (readProblem p .words) work cone
 
--- ---- the first that applies
+-- ---- the table
 
-pub data Refusal : Type 0 where
-  accepted : Refusal
-  refused : Ending → Refusal
+-- A row of a table of refusals: the refusal, and whether its fact holds.
+pub data Fact (R : Type 0) : Type 0 where
+  _when_ : R → Bool → Fact R
+
+infix 75 _when_
+-- "the first that applies answers, and none is given otherwise": of any such table
+pub data First (R : Type 0) : Type 0 where
+  none-applies : First R
+  applies : R → First R
+
+unfoldable pub firstOf : {R : Type 0} → List (Fact R) → First R
+firstOf [] = none-applies
+firstOf ((r when holds) ∷ rows) = cond holds (applies r) (firstOf rows)
+
+-- "Tests run in this order"
+abbrev pub facts : Problem → ℕ → ℕ → List (Fact Ending)
+facts p work cone =
+    (BadParam when badParam (p .par))
+    ∷ (TooLarge when tooLarge p)
+    ∷ (InvalidOp when invalidOp p)
+    ∷ (BadCone when badCone p)
+    ∷ (NotFinite when notFinite p)
+    ∷ (WorkShortage when workShortage p work cone)
+    ∷ []
+
+abbrev pub asRefusal : First Ending → Refusal
+asRefusal none-applies = Accepted
+asRefusal (applies e) = Refused e
 
 unfoldable pub refusal : Problem → ℕ → ℕ → Refusal
-unfolding badParam tooLarge invalidOp badCone notFinite workShortage
-refusal p work cone =
-    cond (badParam (p .par)) (refused BadParam)
-    (cond (tooLarge p) (refused TooLarge)
-    (cond (invalidOp p) (refused InvalidOp)
-    (cond (badCone p) (refused BadCone)
-    (cond (notFinite p) (refused NotFinite)
-    (cond (workShortage p work cone) (refused WorkShortage)
-    accepted)))))
+unfolding firstOf badParam tooLarge invalidOp badCone notFinite workShortage
+refusal p work cone = asRefusal (firstOf (facts p work cone))
 
--- this paper's number of each refusal; an ending of an accepted run has none
+-- the number of a refusal on paper; an ending of a run has none
+abbrev pub refusalOn : OnPaper → ℕ
+refusalOn (turned-away i) = i
+refusalOn (ends row criteria failure solution) = 0
+
 abbrev pub numberOf : Ending → ℕ
-numberOf BadParam = 1
-numberOf TooLarge = 2
-numberOf InvalidOp = 3
-numberOf BadCone = 4
-numberOf NotFinite = 5
-numberOf WorkShortage = 6
-numberOf (Converged a b c) = 0
-numberOf (ExcessIter a b c) = 0
-numberOf (ExcessIterUnscaled a b) = 0
-numberOf (Unbounded a) = 0
-numberOf (Infeasible a) = 0
-numberOf (ConeFailure b) = 0
+numberOf e = refusalOn (onPaper e)
 
 -- ---- the whole outcome
-
--- the problem as the run reads it
-unfoldable pub readProblem : Problem → Problem
-unfolding asRead
-readProblem p =
-    record { m = p .m; n = p .n; storage = p .storage; c = p .c; a = p .a; b = p .b; words = p .words; par = asRead (p .par) }
 
 abbrev pub turnedAway : Ending → List Float → List Float → Left
 turnedAway e work cone = record { answer = record { ending = e; steps = 0; rotations = 0 }; work = work; cone = cone }
 
 abbrev pub leftAfter : Refusal → Left → List Float → List Float → Left
-leftAfter accepted ran work cone = ran
-leftAfter (refused e) ran work cone = turnedAway e work cone
+leftAfter Accepted ran work cone = ran
+leftAfter (Refused e) ran work cone = turnedAway e work cone
 
 unfoldable pub solved : Problem → List Float → List Float → Left
 unfolding refusal readProblem run leftBy

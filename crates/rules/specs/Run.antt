@@ -7,27 +7,34 @@ use lib.Ieee.{Float, le}
 use lib.ListN.{length, take, drop}
 use Rattle.rules.specs.declared.Answer.{Answer}
 use Rattle.rules.specs.declared.Ending.{Ending}
-use Rattle.rules.specs.declared.Ending.the-variants.{BadParam, TooLarge, InvalidOp, BadCone, NotFinite, WorkShortage, Converged, ExcessIter, ExcessIterUnscaled, Unbounded, Infeasible, ConeFailure}
+use Rattle.rules.specs.declared.Ending.the-variants.{Converged, ExcessIter, ExcessIterUnscaled, Unbounded, Infeasible, ConeFailure}
 use Rattle.rules.specs.declared.SolverParam.{SolverParam}
+use Rattle.rules.specs.declared.Verdict.{Verdict}
+use Rattle.rules.specs.declared.Verdict.the-variants.{GoesOn, Ends}
+use Rattle.rules.specs.Outcome.{OnPaper, turned-away, ends, times-1/tau, unscaled, all-zero, onPaper}
 use Rattle.rules.specs.Helpers.{reciprocal}
+use Rattle.rules.specs.Arithmetic.{at}
 use Rattle.rules.specs.Vectors.{scaled}
 use Rattle.rules.specs.Product.{Failure, none, block, coneWork}
 use Rattle.rules.specs.Problem.{Problem, embed, blocks, workLength}
-use Rattle.rules.specs.Step.{State, updated, xX, xY}
-use Rattle.rules.specs.Criteria.{Criteria, conv, inf?, judged, tauOf}
-use Rattle.rules.specs.Prepare.{Norms, norms, prepared, preparedNorms, zeros}
+use Rattle.rules.specs.Step.{State, updated, part}
+use Rattle.rules.specs.declared.Criteria.{Criteria}
+use Rattle.rules.specs.declared.Criteria.the-variants.{Conv, Inf}
+use Rattle.rules.specs.Criteria.{judged}
+use Rattle.rules.specs.declared.Norms.{Norms}
+use Rattle.rules.specs.Prepare.{norms, prepared, preparedNorms, zeros}
 
 -- ---- one whole step, without stopping
 
-pub record Turn : Type 0 where
+pub record WholeStep : Type 0 where
   pub state : State
   pub rotations : ℕ
   pub failure : Failure
   pub criteria : Criteria
 
-unfoldable pub turn : Problem → Norms → State → Turn
+unfoldable pub wholeStep : Problem → Norms → State → WholeStep
 unfolding updated judged
-turn p ns s =
+wholeStep p ns s =
     let u = updated p s in
     let v = u .state in
     let j = judged (embed p) (p .par .«eps_zero») ns (v .x) (v .rx) in
@@ -41,21 +48,49 @@ turn p ns s =
 abbrev pub allowance : SolverParam → ℕ
 allowance par = max (par .«max_iter») 1
 
-pub data Verdict : Type 0 where
-  goesOn : Verdict
-  ends : Ending → Verdict
-
 -- "At one step: ConeFailure first, then Converged or ExcessIter if tau > eps_zero; otherwise Unbounded, Infeasible, ExcessIter."
 unfoldable pub verdict : SolverParam → ℕ → Failure → Criteria → Verdict
 unfolding le
-verdict par k (block b) criteria = ends (ConeFailure b)
-verdict par k none (conv pri dual gap) =
-    cond (le pri (par .«eps_acc») && le dual (par .«eps_acc») && le gap (par .«eps_acc»)) (ends (Converged pri dual gap))
-    (cond (leb (allowance par) k) (ends (ExcessIter pri dual gap)) goesOn)
-verdict par k none (inf? unbdd infeas) =
-    cond (le unbdd (par .«eps_inf»)) (ends (Unbounded unbdd))
-    (cond (le infeas (par .«eps_inf»)) (ends (Infeasible infeas))
-    (cond (leb (allowance par) k) (ends (ExcessIterUnscaled unbdd infeas)) goesOn))
+verdict par k (block b) criteria = Ends (ConeFailure b)
+verdict par k none (Conv pri dual gap) =
+    cond (le pri (par .«eps_acc») && le dual (par .«eps_acc») && le gap (par .«eps_acc»)) (Ends (Converged pri dual gap))
+    (cond (leb (allowance par) k) (Ends (ExcessIter pri dual gap)) GoesOn)
+verdict par k none (Inf unbdd infeas) =
+    cond (le unbdd (par .«eps_inf»)) (Ends (Unbounded unbdd))
+    (cond (le infeas (par .«eps_inf»)) (Ends (Infeasible infeas))
+    (cond (leb (allowance par) k) (Ends (ExcessIterUnscaled unbdd infeas)) GoesOn))
+
+-- ---- steps from any state
+
+-- the state after k steps from s, without stopping
+unfoldable pub stateFrom : Problem → Norms → State → ℕ → State
+unfolding wholeStep
+stateFrom p ns s zero = s
+stateFrom p ns s (suc k) = wholeStep p ns (stateFrom p ns s k) .state
+
+-- What a piece of a run comes to: what its last step said, which is GoesOn where the piece halts without an ending, and the steps and rotations made by then.
+pub record Piece : Type 0 where
+  pub said : Verdict
+  pub steps : ℕ
+  pub rotations : ℕ
+  pub state : State
+
+abbrev pub goingOn : Verdict → Piece → ℕ → ℕ → State → Piece
+goingOn GoesOn rest k q s = rest
+goingOn (Ends e) rest k q s = record { said = Ends e; steps = k; rotations = q; state = s }
+
+-- At most so many further steps from s, when k steps and q rotations are behind.
+unfoldable pub pieceFrom : ℕ → Problem → Norms → ℕ → ℕ → State → Piece
+unfolding wholeStep verdict
+pieceFrom zero p ns k q s = record { said = GoesOn; steps = k; rotations = q; state = s }
+pieceFrom (suc more) p ns k q s =
+    let t = wholeStep p ns s in
+    let rest = pieceFrom more p ns (k + 1) (q + t .rotations) (t .state) in
+    goingOn (verdict (p .par) (k + 1) (t .failure) (t .criteria)) rest (k + 1) (q + t .rotations) (t .state)
+
+-- a piece taken up again, for at most so many steps more; one that has ended stays as it is
+abbrev pub takenUp : ℕ → Problem → Norms → Piece → Piece
+takenUp more p ns c = goingOn (c .said) (pieceFrom more p ns (c .steps) (c .rotations) (c .state)) (c .steps) (c .rotations) (c .state)
 
 -- ---- the run
 
@@ -65,55 +100,53 @@ pub record Ended : Type 0 where
   pub rotations : ℕ
   pub state : State
 
+-- the ending of a piece that has one; a piece with all of the allowance has, since that is met before it could halt
+abbrev pub endingOf : Verdict → Ending
+endingOf GoesOn = ConeFailure 0
+endingOf (Ends e) = e
+
+abbrev pub endedBy : Piece → Ended
+endedBy c = record { ending = endingOf (c .said); steps = c .steps; rotations = c .rotations; state = c .state }
+
 abbrev pub finished : Verdict → Ended → ℕ → ℕ → State → Ended
-finished goesOn rest k q s = rest
-finished (ends e) rest k q s = record { ending = e; steps = k; rotations = q; state = s }
+finished GoesOn rest k q s = rest
+finished (Ends e) rest k q s = record { ending = e; steps = k; rotations = q; state = s }
 
--- Steps from the k-th on, with that many of the allowance left; q rotations were made before. The allowance is met before it runs out.
+-- the run's steps from the k-th on, with that many of the allowance left: what a loop over the steps is proved to make
 unfoldable pub runFrom : ℕ → Problem → Norms → ℕ → ℕ → State → Ended
-unfolding turn verdict
-runFrom zero p ns k q s = record { ending = ConeFailure 0; steps = k; rotations = q; state = s }
-runFrom (suc left) p ns k q s =
-    let t = turn p ns s in
-    let rest = runFrom left p ns (k + 1) (q + t .rotations) (t .state) in
-    finished (verdict (p .par) k (t .failure) (t .criteria)) rest k (q + t .rotations) (t .state)
+unfolding pieceFrom
+runFrom left p ns k q s = endedBy (pieceFrom left p ns (k - 1) q s)
 
--- ---- x and y in work
+-- ---- x and y in work: the third column of the table
+
+abbrev pub scales : OnPaper → Bool
+scales (ends row criteria failure times-1/tau) = true
+scales (ends row criteria failure unscaled) = false
+scales (ends row criteria failure all-zero) = false
+scales (turned-away i) = false
+
+abbrev pub zeroes : OnPaper → Bool
+zeroes (ends row criteria failure times-1/tau) = false
+zeroes (ends row criteria failure unscaled) = false
+zeroes (ends row criteria failure all-zero) = true
+zeroes (turned-away i) = false
 
 abbrev pub isScaled : Ending → Bool
-isScaled BadParam = false
-isScaled TooLarge = false
-isScaled InvalidOp = false
-isScaled BadCone = false
-isScaled NotFinite = false
-isScaled WorkShortage = false
-isScaled (Converged a b c) = true
-isScaled (ExcessIter a b c) = true
-isScaled (ExcessIterUnscaled a b) = false
-isScaled (Unbounded a) = false
-isScaled (Infeasible a) = false
-isScaled (ConeFailure b) = false
+isScaled e = scales (onPaper e)
 
 abbrev pub isConeFailure : Ending → Bool
-isConeFailure BadParam = false
-isConeFailure TooLarge = false
-isConeFailure InvalidOp = false
-isConeFailure BadCone = false
-isConeFailure NotFinite = false
-isConeFailure WorkShortage = false
-isConeFailure (Converged a b c) = false
-isConeFailure (ExcessIter a b c) = false
-isConeFailure (ExcessIterUnscaled a b) = false
-isConeFailure (Unbounded a) = false
-isConeFailure (Infeasible a) = false
-isConeFailure (ConeFailure b) = true
+isConeFailure e = zeroes (onPaper e)
 
--- "x and y in work: times 1/tau" where tau is above eps_zero
-unfoldable pub finalX : Problem → Ending → List Float → List Float
+-- "x and y in work: times 1/tau", of a vector like x and where the ending asks for it
+unfoldable pub finishedX : ℕ → ℕ → Bool → List Float → List Float
 unfolding scaled reciprocal
-finalX p e x =
-    let by = reciprocal (tauOf (embed p) x) in
-    cond (isScaled e) (scaled by (xX (embed p) x) ++ scaled by (xY (embed p) x) ++ drop (p .n + p .m) x) x
+finishedX m n byTau x =
+    let by = reciprocal (at x (n + m + m)) in
+    cond byTau (scaled by (part 0 n x) ++ scaled by (part n m x) ++ drop (n + m) x) x
+
+unfoldable pub finalX : Problem → Ending → List Float → List Float
+unfolding finishedX
+finalX p e x = finishedX (p .m) (p .n) (isScaled e) x
 
 -- "x is the first n places of work, y the next m; each is handed back as a part of work, empty if work is too short to hold it."
 unfoldable pub solutionX : ℕ → List Float → List Float
@@ -122,7 +155,7 @@ solutionX n work = cond (leb n (length work)) (take n work) []
 unfoldable pub solutionY : ℕ → ℕ → List Float → List Float
 solutionY m n work = cond (leb (n + m) (length work)) (take m (drop n work)) []
 
--- all of work
+-- the required part of work
 abbrev pub laidOut : Problem → Ending → State → List Float
 laidOut p e s = finalX p e (s .x) ++ s .y ++ s .dpTau ++ s .dpSigma ++ s .rx ++ s .tx
 

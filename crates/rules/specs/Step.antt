@@ -70,40 +70,63 @@ module _ (k : Embed) (alpha : Float) (u : List Float) (beta : Float) (v : List F
   abbrev pub bTrans : List Float
   bTrans = transOpped (column (k .m)) alpha (k .b) u beta v
 
--- SelfDualEmbed::op: from a vector like x to one like y
+-- SelfDualEmbed::op, from a vector like x to one like y: what each part of it becomes, from what it holds
+module _ (k : Embed) (alpha : Float) (x : List Float) (beta : Float) (v : List Float) where
+  abbrev pub onN : List Float
+  onN = cOp k alpha (xTau k x) one (aTrans k alpha (xY k x) beta v)
+
+  abbrev pub onM : List Float
+  onM = bOp k alpha (xTau k x) one (added (neg alpha) (xS k x) (aOp k (neg alpha) (xX k x) beta v))
+
+  abbrev pub on1 : List Float
+  on1 = bTrans k (neg alpha) (xY k x) one (cTrans k (neg alpha) (xX k x) beta v)
+
 module _ (k : Embed) (alpha : Float) (x : List Float) (beta : Float) (y : List Float) where
   unfoldable pub opN : List Float
   unfolding opped transOpped one
-  opN = cOp k alpha (xTau k x) one (aTrans k alpha (xY k x) beta (yN k y))
+  opN = onN k alpha x beta (yN k y)
 
   unfoldable pub opM : List Float
   unfolding opped added neg one
-  opM = bOp k alpha (xTau k x) one (added (neg alpha) (xS k x) (aOp k (neg alpha) (xX k x) beta (yM k y)))
+  opM = onM k alpha x beta (yM k y)
 
   unfoldable pub op1 : List Float
   unfolding transOpped neg one
-  op1 = bTrans k (neg alpha) (xY k x) one (cTrans k (neg alpha) (xX k x) beta (y1 k y))
+  op1 = on1 k alpha x beta (y1 k y)
 
   abbrev pub opK : List Float
   opK = opN ++ opM ++ op1
 
--- SelfDualEmbed::trans_op: from a vector like y to one like x
+-- SelfDualEmbed::trans_op, from a vector like y to one like x, in the same way
+module _ (k : Embed) (alpha : Float) (y : List Float) (beta : Float) (v : List Float) where
+  abbrev pub backX : List Float
+  backX = cOp k (neg alpha) (y1 k y) one (aTrans k (neg alpha) (yM k y) beta v)
+
+  abbrev pub backY : List Float
+  backY = bOp k (neg alpha) (y1 k y) one (aOp k alpha (yN k y) beta v)
+
+  abbrev pub backS : List Float
+  backS = added (neg alpha) (yM k y) (scaled beta v)
+
+  abbrev pub backTau : List Float
+  backTau = bTrans k alpha (yM k y) one (cTrans k alpha (yN k y) beta v)
+
 module _ (k : Embed) (alpha : Float) (y : List Float) (beta : Float) (x : List Float) where
   unfoldable pub transX : List Float
   unfolding opped transOpped neg one
-  transX = cOp k (neg alpha) (y1 k y) one (aTrans k (neg alpha) (yM k y) beta (xX k x))
+  transX = backX k alpha y beta (xX k x)
 
   unfoldable pub transY : List Float
   unfolding opped neg one
-  transY = bOp k (neg alpha) (y1 k y) one (aOp k alpha (yN k y) beta (xY k x))
+  transY = backY k alpha y beta (xY k x)
 
   unfoldable pub transS : List Float
   unfolding added scaled neg
-  transS = added (neg alpha) (yM k y) (scaled beta (xS k x))
+  transS = backS k alpha y beta (xS k x)
 
   unfoldable pub transTau : List Float
   unfolding transOpped one
-  transTau = bTrans k alpha (yM k y) one (cTrans k alpha (yN k y) beta (xTau k x))
+  transTau = backTau k alpha y beta (xTau k x)
 
   abbrev pub transOpK : List Float
   transOpK = transX ++ transY ++ transS ++ transTau
@@ -164,7 +187,8 @@ movedY p s =
       cone = s .cone;
     }
 
--- What a step leaves: the state, the rotations that it made, and the cone's failure.
+-- What a step comes to, written without stopping: the state, the rotations that it made, and the cone's failure. After a failure nobody holds that
+-- state: the step stops there, and the run clears both buffers.
 pub record Stepped : Type 0 where
   pub state : State
   pub rotations : ℕ
@@ -175,7 +199,7 @@ unfolding movedX projected tauTaken movedY
 updated p s =
     let s' = movedX p s in
     let q = projected p (s' .x) (s' .cone) in
-    let turned : State =
+    let taken : State =
     record {
       x = tauTaken p (q .cone);
       y = s' .y;
@@ -185,4 +209,4 @@ updated p s =
       tx = s' .tx;
       cone = q .work;
     } in
-    record { state = movedY p turned; rotations = q .rotations; failure = q .failure }
+    record { state = movedY p taken; rotations = q .rotations; failure = q .failure }

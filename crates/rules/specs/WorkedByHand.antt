@@ -1,4 +1,4 @@
--- Document 01, "Worked by hand": the cases marked P, as rows of one table. `proofs/WorkedByHand.antt` proves the one claim that every row holds.
+-- Document 01, "Worked by hand": the cases marked P, as rows of one table, with the cone word that it names. `proofs/WorkedByHand.antt` proves the one claim that every row holds.
 use Prim.Native.Nat.{ℕ}
 use mathlib.Core.Path.{_≡_}
 use mathlib.Core.List.{List, [], _∷_}
@@ -9,6 +9,9 @@ use lib.Ieee.{Float, nan, inf, fin, binary64, ofBits, ofInt, neg}
 use Rattle.rules.specs.declared.MatType.{MatType}
 use Rattle.rules.specs.declared.MatType.the-variants.{General, SymPack}
 use Rattle.rules.specs.declared.Storage.the-variants.{Dense}
+use Rattle.rules.specs.declared.SolverParam.{SolverParam}
+use Rattle.rules.specs.declared.Cone.the-variants.{SOC}
+use Rattle.rules.specs.declared.Word.the-variants.{Block}
 use Rattle.rules.specs.declared.Answer.{Answer}
 use Rattle.rules.specs.declared.Ending.{Ending}
 use Rattle.rules.specs.declared.Ending.the-variants.{Converged, ExcessIterUnscaled, WorkShortage}
@@ -16,6 +19,9 @@ use Rattle.rules.specs.Arithmetic.{+0}
 use Rattle.rules.specs.Helpers.{larger, smaller}
 use Rattle.rules.specs.Matrices.{opped, transOpped, absaddedRows, absaddedCols}
 use Rattle.rules.specs.Projections.{projSOC}
+use Rattle.rules.specs.Blocks.{readWord}
+use Rattle.rules.specs.Parameters.{withEpsZero, defaults}
+use Rattle.rules.specs.Outcome.{turned-away, onPaper}
 use Rattle.rules.specs.Problem.{Problem}
 use Rattle.rules.specs.Refusals.{solved, turnedAway}
 use Rattle.rules.specs.Root.{root}
@@ -65,19 +71,16 @@ pair a b = a ∷ b ∷ []
 abbrev triple : Float → Float → Float → List Float
 triple a b c = a ∷ b ∷ c ∷ []
 
--- n = m = 0, with the default tolerances but for eps_zero
-abbrev empty : ℕ → Float → Problem
-empty allowed eps =
-    record {
-      m = 0;
-      n = 0;
-      storage = Dense;
-      c = [];
-      a = [];
-      b = [];
-      words = [];
-      par = record { «max_iter» = allowed; «eps_acc» = f64 0x3eb0_c6f7_a0b5_ed8d; «eps_inf» = f64 0x3eb0_c6f7_a0b5_ed8d; «eps_zero» = eps; «sweep_limit» = 64 };
-    }
+-- n = m = 0
+abbrev empty : SolverParam → Problem
+empty par = record { m = 0; n = 0; storage = Dense; c = []; a = []; b = []; words = []; par = par }
+
+abbrev byDefault : Problem
+byDefault = empty (defaults 1_000_000 64)
+
+-- "the same, eps_zero 0, max_iter 1"
+abbrev epsZero0 : SolverParam → SolverParam
+epsZero0 par = withEpsZero par +0
 
 -- places that held 5 before
 abbrev held : ℕ → List Float
@@ -101,7 +104,10 @@ table =
     ∷ (projSOC (triple +0 (whole 3) (whole 4)) comes-to triple (f64 0x4004_0000_0000_0000) (f64 0x3ff8_0000_0000_0000) (whole 2))
     ∷ (projSOC (triple (whole 5) (whole 3) (whole 4)) comes-to triple (whole 5) (whole 3) (whole 4))
     ∷ (projSOC (triple (minus 5) (minus 3) (whole 4)) comes-to triple +0 −0 +0)
-    ∷ (solved (empty 1_000_000 (f64 0x3d71_9799_812d_ea11)) (held 6) [] .answer comes-to answered (Converged +0 +0 +0) 1 0)
-    ∷ (solved (empty 1 +0) (held 6) [] .answer comes-to answered (ExcessIterUnscaled (inf false) (inf false)) 1 0)
-    ∷ (solved (empty 1_000_000 (f64 0x3d71_9799_812d_ea11)) (held 5) [] comes-to turnedAway WorkShortage (held 5) [])
+    ∷ (solved byDefault (held 6) [] .answer comes-to answered (Converged +0 +0 +0) 1 0)
+    ∷ (solved (empty (epsZero0 (defaults 1 64))) (held 6) [] .answer comes-to answered (ExcessIterUnscaled (inf false) (inf false)) 1 0)
+    ∷ (solved byDefault (held 5) [] comes-to turnedAway WorkShortage (held 5) [])
+    ∷ (onPaper (solved byDefault (held 5) [] .answer .ending) comes-to turned-away 6)
+    -- no case of the table, but a sentence of "What the hub hands over"
+    ∷ (readWord 0x4003 comes-to Block (SOC 3))
     ∷ []

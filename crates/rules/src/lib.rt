@@ -1,7 +1,7 @@
 // What is right. The rules stand in specs/, in document 01's order and words; this file declares
 // the types that the rules and the code share.
 ghost use mathlib.Core.Path.{_≡_};
-ghost use Rattle.rules.specs.Parameters.{defaults};
+ghost use Rattle.rules.specs.Parameters.{paramOf, withEpsZero, defaults};
 
 // The most rows and the most columns of a matrix, which are the largest m and n.
 pub const LIMIT: usize = 256;
@@ -34,7 +34,7 @@ pub enum Word {
 }
 
 // The most sweeps that Jacobi's method may be allowed.
-pub const SWEEPS: u64 = 64;
+pub const MOST_SWEEPS: u64 = 64;
 
 // How a matrix is stored: all of it by columns, or the upper triangle of a symmetric one.
 pub enum Storage {
@@ -42,13 +42,20 @@ pub enum Storage {
     Packed,
 }
 
+// The sizes of a problem, and how its matrix is stored.
+pub struct Shape {
+    pub rows: Rows,
+    pub cols: Cols,
+    pub storage: Storage,
+}
+
 // The largest max_iter, and the most cone words.
 pub const MOST_STEPS: u64 = 1000000;
 
-pub const WORDS: usize = 32;
+pub const MOST_WORDS: usize = 32;
 
-// The most places of a list of blocks: their rotations, at most SWEEPS a place, then fit 64 bits.
-pub const PLACES: usize = 288230376151711743;
+// The most places of a list of blocks: their rotations, at most MOST_SWEEPS a place, then fit 64 bits.
+pub const MOST_PLACES: usize = (18446744073709551615 / MOST_SWEEPS) as usize;
 
 // The parameters of a run.
 pub struct SolverParam {
@@ -70,13 +77,39 @@ impl SolverParam {
     pub fn new(max_iter: u64, sweep_limit: u64) -> SolverParam
         ensures { λ r. ⌜ r ≡ defaults «max_iter» «sweep_limit» ⌝ }
     {
+        SolverParam::of(
+            max_iter,
+            SolverParam::EPS_ACC,
+            SolverParam::EPS_INF,
+            SolverParam::EPS_ZERO,
+            sweep_limit,
+        )
+    }
+
+    // The parameters with these limits and tolerances.
+    pub fn of(
+        max_iter: u64,
+        eps_acc: f64,
+        eps_inf: f64,
+        eps_zero: f64,
+        sweep_limit: u64,
+    ) -> SolverParam
+        ensures { λ r. ⌜ r ≡ paramOf «max_iter» «eps_acc» «eps_inf» «eps_zero» «sweep_limit» ⌝ }
+    {
         SolverParam {
             max_iter,
-            eps_acc: SolverParam::EPS_ACC,
-            eps_inf: SolverParam::EPS_INF,
-            eps_zero: SolverParam::EPS_ZERO,
+            eps_acc,
+            eps_inf,
+            eps_zero,
             sweep_limit,
         }
+    }
+
+    // The same parameters but for eps_zero.
+    pub fn with_eps_zero(par: SolverParam, eps: f64) -> SolverParam
+        ensures { λ r. ⌜ r ≡ withEpsZero par eps ⌝ }
+    {
+        SolverParam::of(par.max_iter, par.eps_acc, par.eps_inf, eps, par.sweep_limit)
     }
 }
 
@@ -114,6 +147,32 @@ pub enum Ending {
     Infeasible(f64),
     // the block's number from 0
     ConeFailure(usize),
+}
+
+// What the six tests say of a problem.
+pub enum Refusal {
+    Accepted,
+    Refused(Ending),
+}
+
+// The Frobenius norms of b and c.
+pub struct Norms {
+    pub b: f64,
+    pub c: f64,
+}
+
+// The criteria of a step.
+pub enum Criteria {
+    // tau above eps_zero: primal, dual, gap
+    Conv(f64, f64, f64),
+    // tau not above it: unbounded, infeasible
+    Inf(f64, f64),
+}
+
+// Whether a run goes on after a step.
+pub enum Verdict {
+    GoesOn,
+    Ends(Ending),
 }
 
 // What a run answers: the ending, the steps k and the Jacobi rotations q.

@@ -1,11 +1,6 @@
-// A run's vectors come into work; of it x is the first n places, y the next m.
-mod parts;
-mod settling;
-
-pub use parts::clear;
+// x is the first n places of work, y the next m.
 use rules::Cols;
 use rules::Rows;
-pub use settling::settle;
 ghost use mathlib.Core.Path.{_≡_};
 ghost use Rattle.rules.specs.Run.{solutionX, solutionY};
 

@@ -48,9 +48,9 @@ fn is_dash(name: &[u8]) -> bool {
 
 // Reads a card and writes its answer.
 fn solve(fd: i32, name: &[u8]) {
-    let mut bytes = [0u8; card::ENOUGH];
-    let length = card_file::read_front(fd, card::ENOUGH, &mut bytes);
-    if length < card::ENOUGH && !is_at_end(fd) {
+    let mut bytes = [0u8; card_file::ENOUGH];
+    let length = card_file::read_front(fd, card_file::ENOUGH, &mut bytes);
+    if length < card_file::ENOUGH && !is_at_end(fd) {
         os::fail(name);
         return;
     }

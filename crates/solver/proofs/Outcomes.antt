@@ -10,6 +10,7 @@ use lib.ListN.{length, take, drop, replicate}
 use lib.Seq.{length-take-le}
 use Rattle.rules.specs.declared.Answer.{Answer}
 use Rattle.rules.specs.declared.Ending.{Ending}
+use Rattle.rules.specs.declared.Shape.{Shape}
 use Rattle.rules.specs.declared.Storage.{Storage}
 use Rattle.rules.specs.declared.Storage.the-variants.{Dense, Packed}
 use Rattle.rules.specs.declared.SolverParam.{SolverParam}
@@ -21,20 +22,19 @@ use Rattle.rules.specs.Product.{coneWork}
 use Rattle.rules.specs.Problem.{Problem, asRead, blocks, matrixOf, lengthX, lengthY, problemOf}
 use Rattle.rules.specs.Prepare.{zeros}
 use Rattle.rules.specs.Run.{leftBy}
-use Rattle.rules.specs.Refusals.{refused, refusal, isPacked, readProblem, turnedAway, solved, SolveOutcome}
-use Rattle.rules.proofs.Accepted.{Accepted, accepted-fits}
+use Rattle.rules.specs.declared.Refusal.{Refusal}
+use Rattle.rules.specs.declared.Refusal.the-variants.{Accepted, Refused}
+use Rattle.rules.specs.Refusals.{refusal, isPacked, readProblem, turnedAway, solved, SolveOutcome}
+use Rattle.rules.proofs.Accepted.{AllFits, accepted-fits}
 use Rattle.rules.proofs.OldContents.{solved-accepted}
 use Rattle.rules.proofs.Parts.{put, from-start}
-use Rattle.checks.specs.declared.Checked.{Checked}
-use Rattle.checks.specs.declared.Checked.the-variants.{Accepted as Passed, Refused}
-use Rattle.checks.specs.Check.{asRefusal}
 use Rattle.solver.specs.Solve.{Taken, LeftAs, Lent, AtZero, RanIn}
 
-solved-refused : (p : Problem) (work cone : List Float) (e : Ending) → refusal p (length work) (length cone) ≡ refused e → solved p work cone ≡ turnedAway e work cone
+solved-refused : (p : Problem) (work cone : List Float) (e : Ending) → refusal p (length work) (length cone) ≡ Refused e → solved p work cone ≡ turnedAway e work cone
 unfolding solved
 solved-refused p work cone e h = rw h
 
-pub turned-away : (p : Problem) (work cone : List Float) (e : Ending) (r : Checked) → asRefusal r ≡ refusal p (length work) (length cone) → r ≡ Refused e → SolveOutcome p work cone (record { ending = e; steps = 0; rotations = 0 }) work cone
+pub turned-away : (p : Problem) (work cone : List Float) (e : Ending) (r : Refusal) → r ≡ refusal p (length work) (length cone) → r ≡ Refused e → SolveOutcome p work cone (record { ending = e; steps = 0; rotations = 0 }) work cone
 turned-away p work cone e r h is =
     let s = solved-refused p work cone e (sym (rw is at h)) in
     record { answered = rw s; work-left = rw s; cone-left = rw s }
@@ -60,10 +60,10 @@ module _ (m n : ℕ) (storage : Storage) (c a b : List Float) (words : List ℕ)
   unfolding asRead
   sweeps-read = refl
 
-  fit-sweeps : Accepted (problemOf m n storage c a b words par) (length work) (length cone) → sweepsFit par ≡ true
+  fit-sweeps : AllFits (problemOf m n storage c a b words par) (length work) (length cone) → sweepsFit par ≡ true
   fit-sweeps f = rw (le-leb _ _ (f .some-sweep), le-leb _ _ (f .sweeps-within))
 
-  pub taken : (r : Checked) → asRefusal r ≡ refusal (problemOf m n storage c a b words par) (length work) (length cone) → r ≡ Passed → (read : SolverParam) → read ≡ asRead par → Taken (problemOf m n storage c a b words read) work cone
+  pub taken : (r : Refusal) → r ≡ refusal (problemOf m n storage c a b words par) (length work) (length cone) → r ≡ Accepted → (read : SolverParam) → read ≡ asRead par → Taken (problemOf m n storage c a b words read) work cone
   taken r h is read e =
       let f = accepted-fits (problemOf m n storage c a b words par) (length work) (length cone) (sym (rw is at h)) in
       rw e
@@ -72,9 +72,11 @@ module _ (m n : ℕ) (storage : Storage) (c a b : List Float) (words : List ℕ)
           operators = record {
             m-within = f .m-within;
             n-within = f .n-within;
-            rows = matrix-rows storage m n;
-            cols = matrix-cols storage m n (f .square);
-            a-length = f .fitting .a;
+            matrix = record {
+              rows = matrix-rows storage m n;
+              cols = matrix-cols storage m n (f .square);
+              stored = record { rows = rw (matrix-rows storage m n) (f .m-within); cols = rw (matrix-cols storage m n (f .square)) (f .n-within); all = f .fitting .a };
+            };
             c-length = f .fitting .c;
             b-length = f .fitting .b;
           };
@@ -87,7 +89,7 @@ module _ (m n : ℕ) (storage : Storage) (c a b : List Float) (words : List ℕ)
         cone-long = f .long-cone;
       })
 
-  pub went-through : (r : Checked) → asRefusal r ≡ refusal (problemOf m n storage c a b words par) (length work) (length cone) → r ≡ Passed → (read : SolverParam) → read ≡ asRead par → (answer : Answer) (work' cone' : List Float) → LeftAs (problemOf m n storage c a b words read) work cone answer work' cone' → SolveOutcome (problemOf m n storage c a b words par) work cone answer work' cone'
+  pub went-through : (r : Refusal) → r ≡ refusal (problemOf m n storage c a b words par) (length work) (length cone) → r ≡ Accepted → (read : SolverParam) → read ≡ asRead par → (answer : Answer) (work' cone' : List Float) → LeftAs (problemOf m n storage c a b words read) work cone answer work' cone' → SolveOutcome (problemOf m n storage c a b words par) work cone answer work' cone'
   went-through r h is read e answer work' cone' l =
       let s = solved-accepted (problemOf m n storage c a b words par) work cone (sym (rw is at h)) in
       let k = rw e at l in
@@ -116,8 +118,9 @@ zeros-part k l h = rw (from-start k) (go k l h)
     go (suc i) zero h = absurd (omega arith)
     go (suc i) (suc j) h = ap (λ v. +0 ∷ v) (go i j (omega arith))
 
-pub at-zero : (m n : ℕ) → m ≤ limit → n ≤ limit → (longX longY : ℕ) → longX ≡ 3 * limit + 1 → longY ≡ 2 * limit + 1 → AtZero m n (take (lengthX m n - 0) (drop 0 (replicate longX +0))) (take (lengthY m n - 0) (drop 0 (replicate longY +0))) (take (lengthX m n - 0) (drop 0 (replicate longX +0))) (take (lengthY m n - 0) (drop 0 (replicate longY +0))) (take (lengthX m n - 0) (drop 0 (replicate longX +0))) (take (lengthX m n - 0) (drop 0 (replicate longX +0)))
-at-zero m n hm hn longX longY x y =
-    let fx = zeros-part (lengthX m n) longX (omega arith) in
-    let fy = zeros-part (lengthY m n) longY (omega arith) in
+pub at-zero : (shape : Shape) → shape .rows .0 ≤ limit → shape .cols .0 ≤ limit → (longX longY : ℕ) → longX ≡ 3 * limit + 1 → longY ≡ 2 * limit + 1
+    → (let x = take (lengthX (shape .rows .0) (shape .cols .0) - 0) (drop 0 (replicate longX +0)) in let y = take (lengthY (shape .rows .0) (shape .cols .0) - 0) (drop 0 (replicate longY +0)) in AtZero shape x y x y x x)
+at-zero shape hm hn longX longY x y =
+    let fx = zeros-part (lengthX (shape .rows .0) (shape .cols .0)) longX (omega arith) in
+    let fy = zeros-part (lengthY (shape .rows .0) (shape .cols .0)) longY (omega arith) in
     record { x-zero = fx; y-zero = fy; tau-zero = fx; sigma-zero = fy; rx-zero = fx; tx-zero = fx }

@@ -1,4 +1,4 @@
--- A step with its verdict is the rule's turn, and a loop over such steps the rule's run.
+-- A step with its verdict is the rule's whole step, and a loop over such steps the rule's run.
 use Prim.Native.Nat.{ℕ, suc, _+_, _-_, _*_, _<_, _≤_}
 use native.Mathlib.Omega.{arith}
 use mathlib.Core.Path.{_≡_, refl, sym, _∙_, ap}
@@ -8,78 +8,57 @@ use lib.Ieee.{Float}
 use lib.ListN.{drop}
 use Rattle.rules.specs.declared.Ending.{Ending}
 use Rattle.rules.specs.declared.Ending.the-variants.{ConeFailure}
-use Rattle.rules.specs.declared.Product.{Product}
-use Rattle.rules.specs.declared.Product.the-variants.{Done, Failed, No}
+use Rattle.rules.specs.declared.Criteria.{Criteria}
+use Rattle.rules.specs.declared.Norms.{Norms}
+use Rattle.rules.specs.declared.Shape.{Shape}
 use Rattle.rules.specs.declared.SolverParam.{SolverParam}
+use Rattle.rules.specs.declared.Verdict.{Verdict}
+use Rattle.rules.specs.declared.Verdict.the-variants.{GoesOn, Ends}
+use Rattle.rules.specs.Limits.{limit, mostSweeps}
 use Rattle.rules.specs.Product.{Failure, none, block, Passed, projAll, isNone}
-use Rattle.rules.specs.Problem.{Problem, embed, blocks}
+use Rattle.rules.specs.Problem.{Problem, problemIn, embed, blocks}
 use Rattle.rules.specs.Step.{State, movedX, projected, updated, xX, xY, xS}
-use Rattle.rules.specs.Prepare.{Norms}
-use Rattle.rules.specs.Criteria.{Criteria, judged}
-use Rattle.rules.specs.Run.{Turn, turn, goesOn, ends, verdict, allowance, finished, runFrom, isConeFailure}
-use Rattle.rules.proofs.Run.{goes-on-exactly}
-use Rattle.solver.specs.declared.run.Turned.{Turned}
-use Rattle.verdict.specs.declared.Verdict.{Verdict as Said}
-use Rattle.verdict.specs.declared.Verdict.the-variants.{Ends}
-use Rattle.solver.specs.Fitting.{stateOf, Ready}
-use Rattle.solver.specs.Update.{Updated}
-use Rattle.verdict.specs.Verdict.{asVerdict}
-use Rattle.solver.specs.Run.{TurnedBy, Iterated}
-use Rattle.solver.proofs.Cones.{pass-rotations, answer-done, answer-failed, answer-some}
+use Rattle.rules.specs.Run.{wholeStep, verdict, allowance, runFrom, isConeFailure}
+use Rattle.rules.proofs.Run.{goes-on-exactly, run-more}
+use Rattle.project.specs.Project.{ConesReady}
+use Rattle.project.proofs.Cones.{pass-rotations}
+use Rattle.step.specs.Update.{stepFits, StepReady}
+use Rattle.step.proofs.Ready.{step-fits}
+use Rattle.whole_step.specs.declared.StepAnswer.{StepAnswer}
+use Rattle.whole_step.specs.declared.StepAnswer.the-variants.{Said, No}
+use Rattle.whole_step.specs.WholeStep.{leftByStep, WholeStepOutcome}
+use Rattle.solver.specs.Run.{SteppedBy, Iterated}
 
 -- ---- one step
 
-module _ (p : Problem) (ns : Norms) (s : State) where
-  turn-failure : turn p ns s .failure ≡ updated p s .failure
-  unfolding turn
-  turn-failure = refl
+stepped-by : {p : Problem} {ns : Norms} {k : ℕ} {s : State} {said : Verdict} {made : ℕ} {s' : State} → WholeStepOutcome true p ns k s (Said said made) s' → SteppedBy p ns k s said made s'
+unfolding leftByStep
+stepped-by {p} {ns} {k} {s} {said} {made} o =
+    let e = o .answered in
+    record { says = cc; counts = cc; state = λ f. o .left ∙ rw f }
 
-  turn-rotations : turn p ns s .rotations ≡ updated p s .rotations
-  unfolding turn
-  turn-rotations = refl
+never-no : {p : Problem} {ns : Norms} {k : ℕ} {s s' : State} → WholeStepOutcome true p ns k s No s' → ⊥
+never-no o = let e = o .answered in let z : _≡_ {A = ℕ} 0 1 = cc in omega arith
 
-  turn-criteria : turn p ns s .criteria ≡ judged (embed p) (p .par .«eps_zero») ns (updated p s .state .x) (updated p s .state .rx) .criteria
-  unfolding turn
-  turn-criteria = refl
+whole-true : {fits : Bool} {p : Problem} {ns : Norms} {k : ℕ} {s : State} {answer : StepAnswer} {s' : State} → fits ≡ true → WholeStepOutcome fits p ns k s answer s' → WholeStepOutcome true p ns k s answer s'
+whole-true e o = record { answered = rw e at (o .answered); left = rw e at (o .left) }
 
-  turn-state : (v : State) → v ≡ updated p s .state → stateOf (v .x) (v .y) (v .dpTau) (v .dpSigma) (judged (embed p) (p .par .«eps_zero») ns (v .x) (v .rx) .rx) (v .tx) (v .cone) ≡ turn p ns s .state
-  unfolding turn
-  turn-state v e = rw e
+-- what the loop learns of a step whose sizes fit
+module _ {par : SolverParam} {shape : Shape} {c a b : List Float} {words : List ℕ} {ns : Norms} {k : ℕ} {s : State} {answer : StepAnswer} {s' : State}
+    (r : StepReady par shape c a b words s) (o : WholeStepOutcome (stepFits par shape c a b words s) (problemIn shape c a b words par) ns k s answer s') where
+  pub said-by : {said : Verdict} {made : ℕ} → answer ≡ Said said made → SteppedBy (problemIn shape c a b words par) ns k s said made s'
+  said-by is = stepped-by (rw is at (whole-true (step-fits r) o))
 
-  judged-at : (k : ℕ) (v : State) → v ≡ updated p s .state → updated p s .failure ≡ none → verdict (p .par) k none (judged (embed p) (p .par .«eps_zero») ns (v .x) (v .rx) .criteria) ≡ verdict (p .par) k (turn p ns s .failure) (turn p ns s .criteria)
-  judged-at k v e f = rw (turn-failure, turn-criteria, e, f)
-
-  failed-at : (k b : ℕ) → updated p s .failure ≡ block b → ends (ConeFailure b) ≡ verdict (p .par) k (turn p ns s .failure) (turn p ns s .criteria)
-  unfolding verdict
-  failed-at k b f = rw (turn-failure, f)
-
-  module _ (k : ℕ) (v : State) {answer : Product} (u : Updated p s answer v) where
-    pub turned-done : (q : ℕ) → answer ≡ Done q → (said : Said) → asVerdict said ≡ verdict (p .par) k none (judged (embed p) (p .par .«eps_zero») ns (v .x) (v .rx) .criteria) → (rx' : List Float) → rx' ≡ judged (embed p) (p .par .«eps_zero») ns (v .x) (v .rx) .rx → TurnedBy p ns k s (record { verdict = said; rotations = q }) (stateOf (v .x) (v .y) (v .dpTau) (v .dpSigma) rx' (v .tx) (v .cone))
-    turned-done q is said h rx' e =
-        let f = answer-done (updated p s .rotations) (updated p s .failure) q (sym is ∙ u .answered) in
-        let same : v ≡ updated p s .state = u .state (f .0) in
-        record {
-          says = h ∙ judged-at k v same (f .0);
-          counts = sym (f .1) ∙ sym turn-rotations;
-          state = λ g. rw e (turn-state v same);
-        }
-
-    pub turned-failed : (b q : ℕ) → answer ≡ Failed b q → (to : State) → TurnedBy p ns k s (record { verdict = Ends (ConeFailure b); rotations = q }) to
-    turned-failed b q is to =
-        let f = answer-failed (updated p s .rotations) (updated p s .failure) b q (sym is ∙ u .answered) in
-        let failed : turn p ns s .failure ≡ block b = turn-failure ∙ f .0 in
-        record {
-          says = failed-at k b (f .0);
-          counts = sym (f .1) ∙ sym turn-rotations;
-          state = λ g. let z : _≡_ {A = ℕ} 0 1 = cc in absurd (omega arith);
-        }
-
-    pub turned-some : answer ≡ No → ⊥
-    turned-some is = answer-some (updated p s .rotations) (updated p s .failure) (sym is ∙ u .answered)
+  pub some-said : answer ≡ No → ⊥
+  some-said is = never-no (rw is at (whole-true (step-fits r) o))
 
 -- ---- how many rotations a step takes
 
-projected-within : (p : Problem) (x cone : List Float) → Ready p → projected p x cone .rotations ≤ 32768
+-- no more than those of both passes over the cones
+abbrev pub perStep : ℕ
+perStep = 2 * (mostSweeps * limit)
+
+projected-within : (p : Problem) (x cone : List Float) {k : ℕ} → ConesReady (p .par) (p .m) (p .words) k → projected p x cone .rotations ≤ perStep
 unfolding projected
 projected-within p x cone ready = go (isNone (first .failure)) refl
   where
@@ -89,28 +68,28 @@ projected-within p x cone ready = go (isNone (first .failure)) refl
     second : Passed
     second = projAll (p .par) false (blocks p) (xS (embed p) (xX (embed p) x ++ first .cone ++ drop (p .n + p .m) x)) (first .work)
 
-    one : first .rotations ≤ 16384
-    one = omega (arith, pass-rotations (p .par) true (blocks p) (xY (embed p) x) cone (ready .sweeps), ready .places, ready .operators .m-within)
+    one : first .rotations ≤ mostSweeps * limit
+    one = omega (arith, pass-rotations (p .par) true (blocks p) (xY (embed p) x) cone (ready .sweeps), ready .places, ready .within)
 
-    two : second .rotations ≤ 16384
-    two = omega (arith, pass-rotations (p .par) false (blocks p) (xS (embed p) (xX (embed p) x ++ first .cone ++ drop (p .n + p .m) x)) (first .work) (ready .sweeps), ready .places, ready .operators .m-within)
+    two : second .rotations ≤ mostSweeps * limit
+    two = omega (arith, pass-rotations (p .par) false (blocks p) (xS (embed p) (xX (embed p) x ++ first .cone ++ drop (p .n + p .m) x)) (first .work) (ready .sweeps), ready .places, ready .within)
 
-    go : (t : Bool) → isNone (first .failure) ≡ t → projected p x cone .rotations ≤ 32768
+    go : (t : Bool) → isNone (first .failure) ≡ t → projected p x cone .rotations ≤ perStep
     go true e = rw e (omega (arith, one, two))
     go false e = rw e (omega (arith, one))
 
-turn-within : (p : Problem) (ns : Norms) (s : State) → Ready p → turn p ns s .rotations ≤ 32768
-unfolding turn updated
-turn-within p ns s ready = projected-within p (movedX p s .x) (movedX p s .cone) ready
+step-within : (p : Problem) (ns : Norms) (s : State) {k : ℕ} → ConesReady (p .par) (p .m) (p .words) k → wholeStep p ns s .rotations ≤ perStep
+unfolding wholeStep updated
+step-within p ns s ready = projected-within p (movedX p s .x) (movedX p s .cone) ready
 
 -- ---- all steps
 
-run-more : (p : Problem) (ns : Norms) (left k q : ℕ) (s : State) (t : Turn) → t ≡ turn p ns s → runFrom (suc left) p ns k q s ≡ finished (verdict (p .par) k (t .failure) (t .criteria)) (runFrom left p ns (k + 1) (q + t .rotations) (t .state)) k (q + t .rotations) (t .state)
-unfolding runFrom
-run-more p ns left k q s t e = rw e
+-- cone work of the same length is as good
+pub still-ready : {par : SolverParam} {m : ℕ} {words : List ℕ} {k l : ℕ} → ConesReady par m words k → l ≡ k → ConesReady par m words l
+still-ready r e = record { within = r .within; readable = r .readable; places = r .places; sweeps = r .sweeps; enough = omega (arith, r .enough) }
 
 -- an ending other than a cone's failure has no block that failed
-no-failure : (par : SolverParam) (k : ℕ) (f : Failure) (criteria : Criteria) (e : Ending) → verdict par k f criteria ≡ ends e → isConeFailure e ≡ false → f ≡ none
+no-failure : (par : SolverParam) (k : ℕ) (f : Failure) (criteria : Criteria) (e : Ending) → verdict par k f criteria ≡ Ends e → isConeFailure e ≡ false → f ≡ none
 unfolding verdict
 no-failure par k none criteria e h g = refl
 no-failure par k (block b) criteria e h g =
@@ -123,7 +102,7 @@ no-failure par k (block b) criteria e h g =
 pub record Running (p : Problem) (ns : Norms) (from : State) (k q : ℕ) (s : State) : Type 0 where
   pub least : 1 ≤ k
   pub most : k ≤ allowance (p .par)
-  pub within : q + 32768 ≤ k * 32768
+  pub within : q + perStep ≤ k * perStep
   pub left : runFrom (suc (allowance (p .par) - k)) p ns k q s ≡ runFrom (allowance (p .par)) p ns 1 0 from
 
 pub running-start : (p : Problem) (ns : Norms) (s : State) → Running p ns s 1 0 s
@@ -131,23 +110,23 @@ running-start p ns s =
     let same : suc (allowance (p .par) - 1) ≡ allowance (p .par) = omega arith in
     record { least = omega arith; most = omega arith; within = omega arith; left = rw same }
 
-module _ {p : Problem} {ns : Norms} {from : State} {k q : ℕ} {s : State} {r : Turned} {to : State} (g : Running p ns from k q s) (t : TurnedBy p ns k s r to) where
-  pub running-counts : Ready p → r .rotations ≤ 32768
-  running-counts ready = omega (arith, t .counts, turn-within p ns s ready)
+module _ {p : Problem} {ns : Norms} {from : State} {k q : ℕ} {s : State} {said : Verdict} {made : ℕ} {to : State} (g : Running p ns from k q s) (t : SteppedBy p ns k s said made to) where
+  pub running-counts : {c : ℕ} → ConesReady (p .par) (p .m) (p .words) c → made ≤ perStep
+  running-counts ready = omega (arith, t .counts, step-within p ns s ready)
 
-  goes : asVerdict (r .verdict) ≡ goesOn → (turn p ns s .failure ≡ none) × (k < allowance (p .par))
-  goes h = let e = goes-on-exactly p k (turn p ns s .failure) (turn p ns s .criteria) .exactly .0 (sym (t .says) ∙ h) in (e .0, e .2)
+  goes : said ≡ GoesOn → (wholeStep p ns s .failure ≡ none) × (k < allowance (p .par))
+  goes h = let e = goes-on-exactly p k (wholeStep p ns s .failure) (wholeStep p ns s .criteria) .exactly .0 (sym (t .says) ∙ h) in (e .0, e .2)
 
-  pub running-before : asVerdict (r .verdict) ≡ goesOn → k < allowance (p .par)
+  pub running-before : said ≡ GoesOn → k < allowance (p .par)
   running-before h = goes h .1
 
-  pub running-more : Ready p → asVerdict (r .verdict) ≡ goesOn → Running p ns from (k + 1) (q + r .rotations) to
+  pub running-more : {c : ℕ} → ConesReady (p .par) (p .m) (p .words) c → said ≡ GoesOn → Running p ns from (k + 1) (q + made) to
   running-more ready h =
       let e = goes h in
       let before : k < allowance (p .par) = e .1 in
-      let v : verdict (p .par) k (turn p ns s .failure) (turn p ns s .criteria) ≡ goesOn = sym (t .says) ∙ h in
+      let v : verdict (p .par) k (wholeStep p ns s .failure) (wholeStep p ns s .criteria) ≡ GoesOn = sym (t .says) ∙ h in
       let one-less : suc (allowance (p .par) - (k + 1)) ≡ allowance (p .par) - k = omega arith in
-      let step = run-more p ns (allowance (p .par) - k) k q s (turn p ns s) refl in
+      let step = run-more p ns (allowance (p .par) - k) k q s (wholeStep p ns s) (g .least) refl in
       record {
         least = omega arith;
         most = omega arith;
@@ -155,14 +134,14 @@ module _ {p : Problem} {ns : Norms} {from : State} {k q : ℕ} {s : State} {r : 
         left = rw (one-less, t .counts, t .state (e .0)) (sym (rw v at step) ∙ g .left);
       }
 
-  pub running-end : (e : Ending) → asVerdict (r .verdict) ≡ ends e → Iterated p ns from (record { ending = e; steps = k; rotations = q + r .rotations }) to
+  pub running-end : (e : Ending) → said ≡ Ends e → Iterated p ns from (record { ending = e; steps = k; rotations = q + made }) to
   running-end e h =
-      let v : verdict (p .par) k (turn p ns s .failure) (turn p ns s .criteria) ≡ ends e = sym (t .says) ∙ h in
-      let step = rw v at (run-more p ns (allowance (p .par) - k) k q s (turn p ns s) refl) in
+      let v : verdict (p .par) k (wholeStep p ns s .failure) (wholeStep p ns s .criteria) ≡ Ends e = sym (t .says) ∙ h in
+      let step = rw v at (run-more p ns (allowance (p .par) - k) k q s (wholeStep p ns s) (g .least) refl) in
       rw (← g .left, step)
       (record {
         ending-is = refl;
         steps-are = refl;
         rotations-are = ap (λ (a : ℕ). q + a) (t .counts);
-        state-is = λ c. t .state (no-failure (p .par) k (turn p ns s .failure) (turn p ns s .criteria) e v c);
+        state-is = λ c. t .state (no-failure (p .par) k (wholeStep p ns s .failure) (wholeStep p ns s .criteria) e v c);
       })

@@ -3,80 +3,97 @@ use Prim.Native.Nat.{ℕ}
 use mathlib.Core.Path.{_≡_, refl, sym, _∙_}
 use mathlib.Core.Bool.{Bool, true, false, cond}
 use mathlib.Core.List.{List, _++_}
+use borrow.Author.Tests.{eq-eqb}
 use lib.Ieee.{Float}
 use lib.ListN.{length, drop, length-replicate}
 use Rattle.rules.specs.declared.Answer.{Answer}
 use Rattle.rules.specs.Arithmetic.{+0}
+use Rattle.rules.specs.Blocks.{hasBadWord, blocksOf, totalPlaces, isBadCone}
 use Rattle.rules.specs.Product.{coneWork}
 use Rattle.rules.specs.Problem.{Problem, blocks, lengthX, lengthY, workLength}
 use Rattle.rules.specs.Step.{State}
-use Rattle.rules.specs.Prepare.{Norms, prepared, preparedNorms, zeros}
+use Rattle.rules.specs.declared.Norms.{Norms}
+use Rattle.rules.specs.declared.Shape.{Shape}
+use Rattle.rules.specs.Prepare.{prepared, preparedNorms, zeros}
 use Rattle.rules.specs.Run.{run, runFrom, allowance, laidOut, isConeFailure}
 use Rattle.rules.proofs.Lengths.{prepared-sized}
-use Rattle.solver.specs.Fitting.{stateOf, LikeX, LikeY, Needed}
-use Rattle.solution.specs.Settle.{Settled}
-use Rattle.solution.proofs.Parted.{final-finished}
-use Rattle.solver.specs.Solve.{Prepared, Lent, AtZero, RanIn}
+use Rattle.shape.specs.Fitting.{LikeX, LikeY}
+use Rattle.rules.specs.Problem.{shapeOf}
+use Rattle.precond.specs.Precond.{Covers}
+use Rattle.step.specs.Update.{stateOf}
+use Rattle.settle.specs.Settle.{Settled}
+use Rattle.settle.proofs.Parted.{final-finished}
+use Rattle.solver.specs.Solve.{Ready, PreparedAs, Lent, AtZero, RanIn}
 use Rattle.solver.specs.Run.{AsEnded, Iterated}
+
+good-list : (words : List ℕ) (m : ℕ) → hasBadWord words ≡ false → totalPlaces (blocksOf words) ≡ m → isBadCone words m ≡ false
+unfolding isBadCone
+good-list words m readable places = rw (readable, eq-eqb (totalPlaces (blocksOf words)) m places)
 
 -- ---- the six vectors at zero
 
-module _ {m n : ℕ} {x y dpTau dpSigma rx tx : List Float} (z : AtZero m n x y dpTau dpSigma rx tx) where
-  pub zero-x : LikeX m n x
-  zero-x = record { is = rw (z .x-zero) (length-replicate (lengthX m n) +0) }
+module _ {shape : Shape} {x y dpTau dpSigma rx tx : List Float} (z : AtZero shape x y dpTau dpSigma rx tx) where
+  pub zero-x : LikeX shape x
+  zero-x = record { is = rw (z .x-zero) (length-replicate (lengthX (shape .rows .0) (shape .cols .0)) +0) }
 
-  pub zero-y : LikeY m n y
-  zero-y = record { is = rw (z .y-zero) (length-replicate (lengthY m n) +0) }
+  pub zero-y : LikeY shape y
+  zero-y = record { is = rw (z .y-zero) (length-replicate (lengthY (shape .rows .0) (shape .cols .0)) +0) }
 
-  pub zero-tau : LikeX m n dpTau
-  zero-tau = record { is = rw (z .tau-zero) (length-replicate (lengthX m n) +0) }
+  pub zero-tau : LikeX shape dpTau
+  zero-tau = record { is = rw (z .tau-zero) (length-replicate (lengthX (shape .rows .0) (shape .cols .0)) +0) }
 
-  pub zero-sigma : LikeY m n dpSigma
-  zero-sigma = record { is = rw (z .sigma-zero) (length-replicate (lengthY m n) +0) }
+  pub zero-sigma : LikeY shape dpSigma
+  zero-sigma = record { is = rw (z .sigma-zero) (length-replicate (lengthY (shape .rows .0) (shape .cols .0)) +0) }
 
-  pub zero-rx : LikeX m n rx
-  zero-rx = record { is = rw (z .rx-zero) (length-replicate (lengthX m n) +0) }
+  pub zero-rx : LikeX shape rx
+  zero-rx = record { is = rw (z .rx-zero) (length-replicate (lengthX (shape .rows .0) (shape .cols .0)) +0) }
 
-  pub zero-tx : LikeX m n tx
-  zero-tx = record { is = rw (z .tx-zero) (length-replicate (lengthX m n) +0) }
+  pub zero-tx : LikeX shape tx
+  zero-tx = record { is = rw (z .tx-zero) (length-replicate (lengthX (shape .rows .0) (shape .cols .0)) +0) }
 
-pub cleared-needed : {p : Problem} {work cone cone' : List Float} → Lent p work cone → cone' ≡ zeros (length cone) → Needed p cone'
-cleared-needed {p} {work} {cone} {cone'} l e = record { is = rw e (length-replicate (length cone) +0) ∙ l .cone-long }
+pub cleared-long : {p : Problem} {work cone cone' : List Float} → Lent p work cone → cone' ≡ zeros (length cone) → length cone' ≡ coneWork (blocks p)
+cleared-long {p} {work} {cone} {cone'} l e = rw e (length-replicate (length cone) +0) ∙ l .cone-long
 
 -- ---- before the first step
 
-run-is : (p : Problem) → run p ≡ runFrom (allowance (p .par)) p (preparedNorms p) 1 0 (prepared p)
-unfolding run
-run-is p = refl
+pub covers : {p : Problem} → Ready p → Covers (shapeOf p) (p .words)
+covers {p} r = record { is = good }
+  where
+    good : isBadCone (p .words) (p .m) ≡ false
+    good = good-list (p .words) (p .m) (r .readable) (r .places)
 
-prepared-is : {p : Problem} {x y dpTau dpSigma rx tx : List Float} {ns : Norms} {x' y' dpTau' dpSigma' : List Float} → AtZero (p .m) (p .n) x y dpTau dpSigma rx tx → Prepared p x y dpTau ns x' y' dpTau' dpSigma' → (cone : List Float) → cone ≡ zeros (coneWork (blocks p)) → stateOf x' y' dpTau' dpSigma' rx tx cone ≡ prepared p
+whole-is : (p : Problem) → run p ≡ runFrom (allowance (p .par)) p (preparedNorms p) 1 0 (prepared p)
+unfolding run
+whole-is p = refl
+
+prepared-is : {p : Problem} {x y dpTau dpSigma rx tx : List Float} {ns : Norms} {x' y' dpTau' dpSigma' : List Float} → AtZero (shapeOf p) x y dpTau dpSigma rx tx → PreparedAs p x y dpTau ns x' y' dpTau' dpSigma' → (cone : List Float) → cone ≡ zeros (coneWork (blocks p)) → stateOf x' y' dpTau' dpSigma' rx tx cone ≡ prepared p
 unfolding prepared
 prepared-is z q cone e = rw (q .x-is, q .y-is, q .tau-is, q .sigma-is, z .x-zero, z .y-zero, z .tau-zero, z .rx-zero, z .tx-zero, e)
 
-module _ {p : Problem} {x y dpTau dpSigma rx tx : List Float} {ns : Norms} {x' y' dpTau' dpSigma' : List Float} (z : AtZero (p .m) (p .n) x y dpTau dpSigma rx tx) (q : Prepared p x y dpTau ns x' y' dpTau' dpSigma') where
+module _ {p : Problem} {x y dpTau dpSigma rx tx : List Float} {ns : Norms} {x' y' dpTau' dpSigma' : List Float} (z : AtZero (shapeOf p) x y dpTau dpSigma rx tx) (q : PreparedAs p x y dpTau ns x' y' dpTau' dpSigma') where
   norms-start : ns ≡ preparedNorms p
   norms-start = q .norms-are ∙ rw (z .x-zero)
 
   state-start : stateOf x' y' dpTau' dpSigma' rx tx (zeros (coneWork (blocks p))) ≡ prepared p
   state-start = prepared-is z q (zeros (coneWork (blocks p))) refl
 
-  pub prepared-x : LikeX (p .m) (p .n) x'
+  pub prepared-x : LikeX (shapeOf p) x'
   prepared-x = record { is = (rw (← state-start) at (prepared-sized p)) .x }
 
-  pub prepared-y : LikeY (p .m) (p .n) y'
+  pub prepared-y : LikeY (shapeOf p) y'
   prepared-y = record { is = (rw (← state-start) at (prepared-sized p)) .y }
 
-  pub prepared-tau : LikeX (p .m) (p .n) dpTau'
+  pub prepared-tau : LikeX (shapeOf p) dpTau'
   prepared-tau = record { is = (rw (← state-start) at (prepared-sized p)) .dpTau }
 
-  pub prepared-sigma : LikeY (p .m) (p .n) dpSigma'
+  pub prepared-sigma : LikeY (shapeOf p) dpSigma'
   prepared-sigma = record { is = (rw (← state-start) at (prepared-sized p)) .dpSigma }
 
   -- all steps from there are the whole run
   pub whole-run : {work cone cone' : List Float} {answer : Answer} {to : State} → Lent p work cone → cone' ≡ zeros (length cone) → Iterated p ns (stateOf x' y' dpTau' dpSigma' rx tx cone') answer to → AsEnded (run p) answer to
   whole-run {work} {cone} {cone'} {answer} {to} l e i =
       let from : stateOf x' y' dpTau' dpSigma' rx tx cone' ≡ prepared p = prepared-is z q cone' (e ∙ rw (l .cone-long)) in
-      let all : runFrom (allowance (p .par)) p ns 1 0 (stateOf x' y' dpTau' dpSigma' rx tx cone') ≡ run p = rw (from, norms-start) (sym (run-is p)) in
+      let all : runFrom (allowance (p .par)) p ns 1 0 (stateOf x' y' dpTau' dpSigma' rx tx cone') ≡ run p = rw (from, norms-start) (sym (whole-is p)) in
       rw all at i
 
 -- ---- after the last step

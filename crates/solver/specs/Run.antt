@@ -6,16 +6,15 @@ use Rattle.rules.specs.declared.Answer.{Answer}
 use Rattle.rules.specs.Product.{none}
 use Rattle.rules.specs.Problem.{Problem}
 use Rattle.rules.specs.Step.{State}
-use Rattle.rules.specs.Prepare.{Norms}
-use Rattle.rules.specs.Run.{turn, verdict, allowance, Ended, runFrom, isConeFailure}
-use Rattle.solver.specs.declared.run.Turned.{Turned}
-use Rattle.verdict.specs.Verdict.{asVerdict}
+use Rattle.rules.specs.declared.Norms.{Norms}
+use Rattle.rules.specs.declared.Verdict.{Verdict}
+use Rattle.rules.specs.Run.{wholeStep, verdict, allowance, Ended, runFrom, isConeFailure}
 
--- Step k from s: what it says, and the state that it leaves where no cone failed.
-pub record TurnedBy (p : Problem) (ns : Norms) (k : ℕ) (s : State) (r : Turned) (s' : State) : Type 0 where
-  pub says : asVerdict (r .verdict) ≡ verdict (p .par) k (turn p ns s .failure) (turn p ns s .criteria)
-  pub counts : r .rotations ≡ turn p ns s .rotations
-  pub state : turn p ns s .failure ≡ none → s' ≡ turn p ns s .state
+-- Step k from s: what it says, its rotations, and the state that it leaves where no cone failed.
+pub record SteppedBy (p : Problem) (ns : Norms) (k : ℕ) (s : State) (said : Verdict) (made : ℕ) (s' : State) : Type 0 where
+  pub says : said ≡ verdict (p .par) k (wholeStep p ns s .failure) (wholeStep p ns s .criteria)
+  pub counts : made ≡ wholeStep p ns s .rotations
+  pub state : wholeStep p ns s .failure ≡ none → s' ≡ wholeStep p ns s .state
 
 -- An answer that is that of a run that ended so, and the state that is left unless a cone failed.
 pub record AsEnded (e : Ended) (answer : Answer) (s' : State) : Type 0 where

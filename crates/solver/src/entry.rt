@@ -1,14 +1,15 @@
 // The entry point, which checks for itself, and an accepted run with vectors of its own.
 use crate::solving;
-use checks::Checked;
 use rules::Answer;
 use rules::Cols;
 use rules::LIMIT;
+use rules::Refusal;
 use rules::Rows;
+use rules::Shape;
 use rules::SolverParam;
 use rules::Storage;
 ghost use Rattle.rules.specs.Refusals.{SolveOutcome};
-ghost use Rattle.rules.specs.Problem.{problemOf};
+ghost use Rattle.rules.specs.Problem.{problemOf, problemIn};
 ghost use Rattle.solver.specs.Solve.{Taken, LeftAs};
 
 // The longest x and the longest y.
@@ -29,14 +30,17 @@ pub fn solve(
     work: &mut [f64],
     cone_work: &mut [f64],
 ) -> Answer
-    ensures { λ r. ⌜ SolveOutcome (problemOf (rows .0) (cols .0) storage (now (c .entry)) (now (a .entry)) (now (b .entry)) (now (words .entry)) par) (now (work .entry)) (now («cone_work» .entry)) r (now (work .exit)) (now («cone_work» .exit)) ⌝ }
+    ensures { λ r. ⌜
+        SolveOutcome
+        (problemOf (rows .0) (cols .0) storage (now (c .entry)) (now (a .entry)) (now (b .entry))
+        (now (words .entry)) par)
+        (now (work .entry)) (now («cone_work» .entry)) r (now (work .exit)) (now («cone_work» .exit))
+        ⌝ }
 {
-    let m = rows.0;
-    let n = cols.0;
     let found = checks::check(
         par,
-        m,
-        n,
+        rows,
+        cols,
         storage,
         c,
         a,
@@ -46,17 +50,20 @@ pub fn solve(
         cone_work.len(),
     );
     match found {
-        Checked::Refused(e) => Answer {
+        Refusal::Refused(e) => Answer {
             ending: e,
             steps: 0,
             rotations: 0,
         },
-        Checked::Accepted => {
+        Refusal::Accepted => {
+            let shape = Shape {
+                rows,
+                cols,
+                storage,
+            };
             accepted(
                 checks::read_eps(par),
-                m,
-                n,
-                storage,
+                shape,
                 c,
                 a,
                 b,
@@ -71,9 +78,7 @@ pub fn solve(
 // The six vectors are held apart, since two parts of one lent slice can't be lent at once.
 fn accepted(
     par: SolverParam,
-    m: usize,
-    n: usize,
-    storage: Storage,
+    shape: Shape,
     c: &[f64],
     a: &[f64],
     b: &[f64],
@@ -81,9 +86,14 @@ fn accepted(
     work: &mut [f64],
     cone_work: &mut [f64],
 ) -> Answer
-    requires { ⌜ Taken (problemOf m n storage (now c) (now a) (now b) (now words) par) (now work) (now «cone_work») ⌝ }
-    ensures { λ r. ⌜ LeftAs (problemOf m n storage (now (c .entry)) (now (a .entry)) (now (b .entry)) (now (words .entry)) par) (now (work .entry)) (now («cone_work» .entry)) r (now (work .exit)) (now («cone_work» .exit)) ⌝ }
+    requires { ⌜ Taken (problemIn shape (now c) (now a) (now b) (now words) par) (now work) (now «cone_work») ⌝ }
+    ensures { λ r. ⌜
+        LeftAs (problemIn shape (now (c .entry)) (now (a .entry)) (now (b .entry)) (now (words .entry)) par)
+        (now (work .entry)) (now («cone_work» .entry)) r (now (work .exit)) (now («cone_work» .exit))
+        ⌝ }
 {
+    let m = shape.rows.0;
+    let n = shape.cols.0;
     let nx = n + m + m + 1;
     let ny = n + m + 1;
     let needed = words::cone_work_len(words);
@@ -95,9 +105,7 @@ fn accepted(
     let mut tx = [0.0; LONG_X];
     solving::run_in(
         par,
-        m,
-        n,
-        storage,
+        shape,
         c,
         a,
         b,

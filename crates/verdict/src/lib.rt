@@ -1,21 +1,15 @@
 // How a run ends: what the criteria of a step say, and what each ending does to the buffers.
 use rules::Ending;
 use rules::SolverParam;
+use rules::Verdict;
 ghost use mathlib.Core.Path.{_≡_};
 ghost use mathlib.Core.Bool.{_&&_};
 ghost use lib.Dec.{leb};
 ghost use lib.Ieee.{le};
-ghost use Rattle.rules.specs.Criteria.{conv, inf?};
 ghost use Rattle.rules.specs.Product.{none};
 ghost use Rattle.rules.specs.Run as rules;
 ghost use Rattle.rules.specs.Run.{allowance, isScaled, isConeFailure};
-ghost use Rattle.verdict.specs.Verdict.{asVerdict};
-
-// Whether the run goes on after a step.
-pub enum Verdict {
-    GoesOn,
-    Ends(Ending),
-}
+ghost use Rattle.rules.specs.declared.Criteria.the-variants.{Conv, Inf};
 
 // Whether the allowance is met: at step max(max_iter, 1).
 fn is_spent(par: SolverParam, k: u64) -> bool
@@ -41,7 +35,7 @@ fn is_converged(par: SolverParam, pri: f64, dual: f64, gap: f64) -> bool
 
 // What the criteria of convergence say at step k.
 pub fn of_conv(par: SolverParam, k: u64, pri: f64, dual: f64, gap: f64) -> Verdict
-    ensures { λ r. ⌜ asVerdict r ≡ rules.verdict par k none (conv pri dual gap) ⌝ }
+    ensures { λ r. ⌜ r ≡ rules.verdict par k none (Conv pri dual gap) ⌝ }
 {
     if is_converged(par, pri, dual, gap) {
         return Verdict::Ends(Ending::Converged(pri, dual, gap));
@@ -54,7 +48,7 @@ pub fn of_conv(par: SolverParam, k: u64, pri: f64, dual: f64, gap: f64) -> Verdi
 
 // What the two others say at step k.
 pub fn of_inf(par: SolverParam, k: u64, unbdd: f64, infeas: f64) -> Verdict
-    ensures { λ r. ⌜ asVerdict r ≡ rules.verdict par k none (inf? unbdd infeas) ⌝ }
+    ensures { λ r. ⌜ r ≡ rules.verdict par k none (Inf unbdd infeas) ⌝ }
 {
     if unbdd <= par.eps_inf {
         return Verdict::Ends(Ending::Unbounded(unbdd));

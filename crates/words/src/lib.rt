@@ -1,8 +1,17 @@
 // The reader of the cone list: the only place that knows words. Everything else is over the blocks.
+use matrix::triangle;
 use rules::Cone;
+use rules::LIMIT;
+use rules::MOST_SWEEPS;
+use rules::SolverParam;
 use rules::Word;
+ghost use Prim.Native.Nat.{_≤_};
 ghost use mathlib.Core.Path.{_≡_};
-ghost use Rattle.rules.specs.Blocks.{orderOf, readWord, blocksOf, isBadCone};
+ghost use lib.Dec.{leb};
+ghost use Rattle.rules.specs.Limits.{limit};
+ghost use Rattle.rules.specs.Blocks.{orderOf, readWord, places, blocksOf, isBadCone};
+ghost use Rattle.rules.specs.Jacobi.{sweepsFit};
+ghost use Rattle.rules.specs.Projections.{sizesFit};
 ghost use Rattle.rules.specs.Product.{coneWork};
 ghost use Rattle.words.specs.Sayable.{isSayable, sayablePlaces, sayableWork};
 
@@ -15,7 +24,7 @@ fn order_of(size: usize) -> usize
 {
     let mut order: usize = 127;
     while 0 < order {
-        if order * (order + 1) / 2 <= size {
+        if triangle(order) <= size {
             return order;
         }
         order = order - 1;
@@ -35,7 +44,7 @@ pub fn read_word(word: u16) -> Word
         3 => Word::Block(Cone::RotSOC(size)),
         4 => {
             let order = order_of(size);
-            if order * (order + 1) / 2 == size {
+            if triangle(order) == size {
                 Word::Block(Cone::PSD(order))
             } else {
                 Word::Bad
@@ -45,22 +54,32 @@ pub fn read_word(word: u16) -> Word
     }
 }
 
+// Whether a block has at most so many places.
+fn has_at_most(cone: Cone, most: usize) -> bool
+    requires { ⌜ most ≤ 8191 ⌝ }
+    ensures { λ r. ⌜ r ≡ leb (places cone) most ⌝ }
+{
+    match cone {
+        Cone::Zero(size) => size <= most,
+        Cone::RPos(size) => size <= most,
+        Cone::SOC(size) => size <= most,
+        Cone::RotSOC(size) => size <= most,
+        Cone::PSD(order) => triangle(order) <= most,
+    }
+}
+
 // Whether a word can say a block.
 fn is_sayable(cone: Cone) -> bool
     ensures { λ r. ⌜ r ≡ isSayable cone ⌝ }
 {
-    match cone {
-        Cone::Zero(size) => size <= SIZE,
-        Cone::RPos(size) => size <= SIZE,
-        Cone::SOC(size) => size <= SIZE,
-        Cone::RotSOC(size) => size <= SIZE,
-        Cone::PSD(order) => {
-            if SIZE < order {
-                return false;
-            }
-            order * (order + 1) / 2 <= SIZE
-        }
-    }
+    has_at_most(cone, SIZE)
+}
+
+// Whether a block has at most as many places as m may be.
+pub fn is_within(cone: Cone) -> bool
+    ensures { λ r. ⌜ r ≡ leb (places cone) limit ⌝ }
+{
+    has_at_most(cone, LIMIT)
 }
 
 // How many places a block has: none, if no word can say it.
@@ -75,7 +94,7 @@ pub fn places_of(cone: Cone) -> usize
         Cone::RPos(size) => size,
         Cone::SOC(size) => size,
         Cone::RotSOC(size) => size,
-        Cone::PSD(order) => order * (order + 1) / 2,
+        Cone::PSD(order) => triangle(order),
     }
 }
 
@@ -93,6 +112,32 @@ pub fn block_work(cone: Cone) -> usize
         Cone::RotSOC(_) => 0,
         Cone::PSD(order) => order + order * order,
     }
+}
+
+// Whether the sweep limit is within its range.
+pub fn sweeps_fit(par: SolverParam) -> bool
+    ensures { λ r. ⌜ r ≡ sweepsFit par ⌝ }
+{
+    if par.sweep_limit < 1 {
+        return false;
+    }
+    par.sweep_limit <= MOST_SWEEPS
+}
+
+// Whether a block, of any kind, has that many places and finds enough cone work, and the sweep limit fits.
+pub fn block_fits(par: SolverParam, cone: Cone, size: usize, work: usize) -> bool
+    ensures { λ r. ⌜ r ≡ sizesFit par cone size work ⌝ }
+{
+    if !is_within(cone) {
+        return false;
+    }
+    if size != places_of(cone) {
+        return false;
+    }
+    if work < block_work(cone) {
+        return false;
+    }
+    sweeps_fit(par)
 }
 
 // Whether a list has a word that is bad, or blocks that don't add up to that many places.

@@ -37,7 +37,7 @@ answer-fields-requires c κs =
     let d = c .before .before .before .before .packed .given .0 in
     let is = reading (a .bytes .now) _ _ _ _ _ (search needs) (search needs) (c .before .before .before .before .before .before .before .before .read-card .ensures) ∙ c .before .before .before .before .packed .given .1 in
     let most = count-most (a .bytes .now) (d .0) (d .1 .0) (d .1 .1 .0) (d .1 .1 .1 .0) (d .1 .1 .1 .1 .0) (d .1 .1 .1 .1 .1 .0) is in
-    (n-most (a .bytes .now) (d .0) (d .1 .0) (d .1 .1 .0) (d .1 .1 .1 .0) (d .1 .1 .1 .1 .0) (d .1 .1 .1 .1 .1 .0) is, (m-most (a .bytes .now) (d .0) (d .1 .0) (d .1 .1 .0) (d .1 .1 .1 .0) (d .1 .1 .1 .1 .0) (d .1 .1 .1 .1 .1 .0) is, (omega arith, omega arith)))
+    (m-most (a .bytes .now) (d .0) (d .1 .0) (d .1 .1 .0) (d .1 .1 .1 .0) (d .1 .1 .1 .1 .0) (d .1 .1 .1 .1 .1 .0) is, (n-most (a .bytes .now) (d .0) (d .1 .0) (d .1 .1 .0) (d .1 .1 .1 .0) (d .1 .1 .1 .1 .0) (d .1 .1 .1 .1 .1 .0) is, (omega arith, omega arith)))
 
 returns : tie.Need-returns
 returns c =

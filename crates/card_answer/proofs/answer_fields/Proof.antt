@@ -25,7 +25,7 @@ same-length c = search needs
 returns : tie.Need-returns
 returns c =
     let a = c .before .before .before .before .before .before .before .before .before .before .args in
-    fields-outcome (a .packed) (a .n) (a .m) (a .count) (a .words .now) (a .max-iter) (a .sweep-limit) (a .numbers .now) (a .work .now) _ _ _ (c .before .before .before .solve-fields .ensures)
+    fields-outcome (a .packed) (a .rows) (a .cols) (a .count) (a .words .now) (a .max-iter) (a .sweep-limit) (a .numbers .now) (a .work .now) _ _ _ (c .before .before .before .solve-fields .ensures)
 
 pub answer-fields-spec : {M : Type 1} → statement M
 answer-fields-spec =

@@ -1,4 +1,5 @@
 -- `card_answer::parameters` meets its contract.
+use mathlib.Core.Path.{_∙_}
 use borrow.Author.Needs.{needs}
 use Rattle.card_answer.specs.Answer.{parametersOf}
 use Rattle.card_answer.proofs.parameters.Statement.{statement}
@@ -22,9 +23,12 @@ shared-slice-read-number-of-3 c = search needs
 number-of-requires-3 : tie.Need-number-of-requires-3
 number-of-requires-3 c κs = search needs
 
+of-requires : tie.Need-of-requires
+of-requires c κs = search needs
+
 returns : tie.Need-returns
 unfolding parametersOf
-returns c = rw (c .before .before .before .before .number-of .ensures, c .before .before .number-of2 .ensures, c .number-of3 .ensures)
+returns c = c .of .ensures ∙ rw (c .before .before .before .before .before .number-of .ensures, c .before .before .before .number-of2 .ensures, c .before .number-of3 .ensures)
 
 pub parameters-spec : {M : Type 1} → statement M
 parameters-spec =
@@ -36,4 +40,5 @@ parameters-spec =
     number-of-requires-2
     shared-slice-read-number-of-3
     number-of-requires-3
+    of-requires
     returns)

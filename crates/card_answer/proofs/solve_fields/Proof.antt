@@ -1,5 +1,7 @@
 -- `card_answer::solve_fields` meets its contract: the fields make the problem that is solved.
 use borrow.Author.Needs.{needs}
+use mathlib.Core.Path.{_∙_}
+use Rattle.card.proofs.Counts.{stored-is}
 use Rattle.card_answer.proofs.Outcome.{same-problem}
 use Rattle.card_answer.proofs.solve_fields.Statement.{statement}
 use Rattle.card_answer.proofs.solve_fields.Tie as tie
@@ -69,8 +71,9 @@ same-length-2 c = search needs
 
 returns : tie.Need-returns
 returns c =
-    let a = c .before .before .before .before .before .before .before .before .before .before .before .before .before .before .before .before .before .before .before .before .before .before .before .args in
-    rw (same-problem (a .packed) (a .n) (a .m) _ (a .words .now) (a .max-iter) (a .sweep-limit) (a .numbers .now) _ _ _ _ _ (c .before .before .before .before .before .before .before .before .before .before .before .before .before .before .before .before .before .before .stored .ensures .0) (c .before .before .before .before .before .before .before .before .before .before .before .before .before .storage-of .ensures) (c .before .before .before .before .before .before .before .before .before .before .before .before .before .before .before .before .before .vector .ensures .1) (c .before .before .before .before .before .before .before .before .before .before .before .before .before .before .before .before .matrix .ensures .1) (c .before .before .before .before .before .before .before .before .before .before .before .before .before .before .before .vector2 .ensures .1) (c .before .before .before .before .before .before .before .before .before .before .before .before .before .before .parameters .ensures)) at (c .before .before .before .before .solve .ensures)
+    let s = c .before .before .before .before .before .before .before .before .before .before .before .before .before .before .before .before .before .before .before .before .before .before .before in
+    let a = s .args in
+    rw (same-problem (a .packed) (a .rows) (a .cols) _ (a .words .now) (a .max-iter) (a .sweep-limit) (a .numbers .now) _ _ _ _ _ (c .before .before .before .before .before .before .before .before .before .before .before .before .before .before .before .before .before .before .stored .ensures .0 ∙ stored-is (a .packed) (a .rows) (a .cols) (s .pre .1 .0) (s .pre .0)) (c .before .before .before .before .before .before .before .before .before .before .before .before .before .storage-of .ensures) (c .before .before .before .before .before .before .before .before .before .before .before .before .before .before .before .before .before .vector .ensures .1) (c .before .before .before .before .before .before .before .before .before .before .before .before .before .before .before .before .matrix .ensures .1) (c .before .before .before .before .before .before .before .before .before .before .before .before .before .before .before .vector2 .ensures .1) (c .before .before .before .before .before .before .before .before .before .before .before .before .before .before .parameters .ensures)) at (c .before .before .before .before .solve .ensures)
 
 pub solve-fields-spec : {M : Type 1} → statement M
 solve-fields-spec =

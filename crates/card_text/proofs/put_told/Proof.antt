@@ -31,7 +31,7 @@ put-answer-requires c κs =
     let a = c .before .before .before .before .before .before .before .before .args in
     let d = c .before .before .before .before .told2 .given .0 in
     let p = rw (c .before .before .before .before .told2 .given .1) at (c .before .before .before .before .before .before .before .before .pre .1) in
-    (omega (arith, c .before .before .before .before .before .before .before .before .pre .0), (rw (c .before .solution-x .ensures) (x-within (d .0) (a .work .now) (p .0)), rw (c .solution-y .ensures) (y-within (d .1 .0) (d .0) (a .work .now) (p .1))))
+    (omega (arith, c .before .before .before .before .before .before .before .before .pre .0), (rw (c .before .solution-x .ensures) (x-within (d .1 .0 .0) (a .work .now) (p .0)), rw (c .solution-y .ensures) (y-within (d .0 .0) (d .1 .0 .0) (a .work .now) (p .1))))
 
 same-length : tie.Need-same-length
 same-length c = search needs

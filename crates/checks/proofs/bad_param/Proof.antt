@@ -3,6 +3,7 @@ use borrow.Author.Needs.{needs}
 use borrow.Author.Tests.{not-true, not-false, lt-ltb, le-ltb, le-leb, lt-leb}
 use mathlib.Core.Path.{_≡_, sym, _∙_}
 use mathlib.Core.Bool.{true, false}
+use Rattle.rules.specs.Limits.{mostSteps, mostSweeps}
 use Rattle.rules.specs.Refusals.{isFinite, badParam}
 use Rattle.checks.proofs.Finite.{above}
 use Rattle.checks.proofs.bad_param.Statement.{statement}
@@ -55,7 +56,7 @@ unfolding badParam
 returns-5 c =
     let z = c .before .before .before .before in
     let par = z .before .before .before .before .before .before .args .par in
-    rw (acc (z .before .before .before .before), inf (z .before .before), zero z, c .before .before .if4 .left, lt-ltb 1000000 (par .«max_iter») (c .if5 .taken))
+    rw (acc (z .before .before .before .before), inf (z .before .before), zero z, c .before .before .if4 .left, lt-ltb mostSteps (par .«max_iter») (c .if5 .taken))
 
 returns-6 : tie.Need-returns-6
 unfolding badParam
@@ -63,7 +64,7 @@ returns-6 c =
     let f = c .before .before in
     let z = f .before .before .before .before in
     let par = z .before .before .before .before .before .before .args .par in
-    rw (acc (z .before .before .before .before), inf (z .before .before), zero z, f .before .before .if4 .left, le-ltb 1000000 (par .«max_iter») (f .if5 .left), lt-leb 1 (par .«sweep_limit») (c .if6 .taken))
+    rw (acc (z .before .before .before .before), inf (z .before .before), zero z, f .before .before .if4 .left, le-ltb mostSteps (par .«max_iter») (f .if5 .left), lt-leb 1 (par .«sweep_limit») (c .if6 .taken))
 
 returns-7 : tie.Need-returns-7
 unfolding badParam
@@ -72,7 +73,7 @@ returns-7 c =
     let f = s .before .before in
     let z = f .before .before .before .before in
     let par = z .before .before .before .before .before .before .args .par in
-    rw (acc (z .before .before .before .before), inf (z .before .before), zero z, f .before .before .if4 .left, le-ltb 1000000 (par .«max_iter») (f .if5 .left), le-leb 1 (par .«sweep_limit») (s .if6 .left)) (above (par .«sweep_limit») 64)
+    rw (acc (z .before .before .before .before), inf (z .before .before), zero z, f .before .before .if4 .left, le-ltb mostSteps (par .«max_iter») (f .if5 .left), le-leb 1 (par .«sweep_limit») (s .if6 .left)) (above (par .«sweep_limit») mostSweeps)
 
 pub bad-param-spec : {M : Type 1} → statement M
 bad-param-spec =

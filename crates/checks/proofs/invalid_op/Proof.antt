@@ -8,6 +8,7 @@ use mathlib.Core.Path.{_≡_, sym}
 use mathlib.Core.Bool.{true, not, _&&_, _||_}
 use lib.Dec.{eqb}
 use lib.ListN.{length}
+use Rattle.rules.specs.Limits.{limit}
 use Rattle.rules.specs.Matrices.{storedLength, triangle}
 use Rattle.rules.specs.Problem.{matrixOf}
 use Rattle.rules.specs.Refusals.{isPacked}
@@ -50,7 +51,7 @@ add-result c = search needs
 mul-result-2 : tie.Need-mul-result-2
 mul-result-2 c =
     let start = c .before .before .before .before .before in
-    let h : start .args .m + 1 ≤ 257 = omega (arith, start .pre) in
+    let h : start .args .m + 1 ≤ limit + 1 = omega (arith, start .pre) in
     omega (arith, mul-le-mul (start .pre .0) h)
 
 returns-4 : tie.Need-returns-4

@@ -1,8 +1,19 @@
 -- `cone::proj_soc` meets its contract: its four ways are those of the rule.
-use borrow.Author.Needs.{needs}
+use native.Mathlib.Omega.{arith}
+use Prim.Native.Nat.{_<_}
+use mathlib.Core.Path.{refl}
+use mathlib.Core.Bool.{false≢true}
+use lib.ListN.{length}
 use Rattle.rules.proofs.Projections.{soc-none, soc-apex, soc-inside, soc-outside, one-is, two-is}
+use borrow.Author.Needs.{needs}
 use Rattle.cone.proofs.proj_soc.Statement.{statement}
 use Rattle.cone.proofs.proj_soc.Tie as tie
+
+some : (c : tie.Else1) → 0 < length (c .before .before .args .x .now)
+some c = omega (arith, c .if1 .left)
+
+returns : tie.Need-returns
+returns c = (soc-none _ (omega (arith, c .if1 .taken)), λ e. refl)
 
 slice-read-s : tie.Need-slice-read-s
 slice-read-s c = search needs
@@ -34,6 +45,18 @@ scale-requires c κs = search needs
 slice-write-x : tie.Need-slice-write-x
 slice-write-x c = search needs
 
+same-length : tie.Need-same-length
+same-length c = search needs
+
+returns-2 : tie.Need-returns-2
+returns-2 c = (soc-apex _ _ _ (some (c .before .before .before .before .before .before .before .before .before)) (c .before .before .before .before .before .norm .ensures) (c .before .before .before .before .if2 .taken) (c .before .before .scale .ensures), λ e. absurd (false≢true e))
+
+same-length-2 : tie.Need-same-length-2
+same-length-2 c = search needs
+
+returns-3 : tie.Need-returns-3
+returns-3 c = (soc-inside _ (c .before .before .before .before .before .before .before .before .args .x .now) _ (some (c .before .before .before .before .before .before)) (c .before .before .norm .ensures) (c .before .if2 .left) (c .if3 .taken), λ e. refl)
+
 sub-scale-2 : tie.Need-sub-scale-2
 sub-scale-2 c = search needs
 
@@ -49,33 +72,17 @@ scale-requires-2 c κs = search needs
 slice-write-x-2 : tie.Need-slice-write-x-2
 slice-write-x-2 c = search needs
 
-same-length : tie.Need-same-length
-same-length c = search needs
-
-returns : tie.Need-returns
-returns c = soc-apex _ _ _ (c .before .before .before .before .before .before .before .before .before .if1 .taken) (c .before .before .before .before .before .norm .ensures) (c .before .before .before .before .if2 .taken) (c .before .before .scale .ensures)
-
-same-length-2 : tie.Need-same-length-2
-same-length-2 c = search needs
-
-returns-2 : tie.Need-returns-2
-returns-2 c = soc-inside _ (c .before .before .before .before .before .before .before .before .args .x .now) _ (c .before .before .before .before .before .before .if1 .taken) (c .before .before .norm .ensures) (c .before .if2 .left) (c .if3 .taken)
-
 same-length-3 : tie.Need-same-length-3
 same-length-3 c = search needs
 
-returns-3 : tie.Need-returns-3
-returns-3 c =
-    rw two-is
-    (soc-outside _ _ _ (c .before .before .before .before .before .before .before .before .before .before .if1 .taken) (c .before .before .before .before .before .before .norm .ensures) (c .before .before .before .before .before .if2 .left) (c .before .before .before .before .if3 .left) (rw (one-is, two-is) at (c .before .before .scale2 .ensures)))
-
 returns-4 : tie.Need-returns-4
-returns-4 c = soc-none _ (c .if1 .left)
+returns-4 c = (rw two-is (soc-outside _ _ _ (some (c .before .before .before .before .before .before .before .before .before .before)) (c .before .before .before .before .before .before .norm .ensures) (c .before .before .before .before .before .if2 .left) (c .before .before .before .before .if3 .left) (rw (one-is, two-is) at (c .before .before .scale2 .ensures))), λ e. absurd (false≢true e))
 
 pub proj-soc-spec : {M : Type 1} → statement M
 proj-soc-spec =
     tie.close
     (tie.spec
+    returns
     slice-read-s
     sub-norm
     part-norm-start
@@ -86,15 +93,14 @@ proj-soc-spec =
     part-scale-end
     scale-requires
     slice-write-x
+    same-length
+    returns-2
+    same-length-2
+    returns-3
     sub-scale-2
     part-scale-start-2
     part-scale-end-2
     scale-requires-2
     slice-write-x-2
-    same-length
-    returns
-    same-length-2
-    returns-2
     same-length-3
-    returns-3
     returns-4)

@@ -1,34 +1,36 @@
 -- `eig::rank1op_column` meets its contract.
-use Prim.Native.Nat.{_+_, _-_, _<_}
 use native.Mathlib.Omega.{arith}
-use mathlib.Core.Path.{_≡_}
-use borrow.Author.Needs.{needs}
+use Prim.Native.Nat.{ℕ, _+_, _-_, _≤_}
+use mathlib.Core.Path.{_≡_, ap}
 use lib.ListN.{length}
-use Rattle.rules.specs.Matrices.{place}
-use Rattle.rules.proofs.Columns.{packedPlace-inside}
+use Rattle.rules.specs.Matrices.{triangle}
+use Rattle.rules.proofs.Triangle.{triangle-inside}
+use Rattle.matrix.proofs.Counted.{counted-small}
 use Rattle.eig.proofs.Rank1.{ColumnTo, column-none, column-more, column-all}
+use borrow.Author.Needs.{needs}
 use Rattle.eig.proofs.rank1op_column.Statement.{statement}
 use Rattle.eig.proofs.rank1op_column.Tie as tie
 
 abbrev Inv-loop : tie.InvT-loop
-Inv-loop e z c x₀ r₀ r-end x r = ColumnTo e z c r x₀ x × (r-end ≡ c + 1)
+Inv-loop e z c x₀ top r₀ r-end x r = ColumnTo e z c r x₀ x × (r-end ≡ c + 1) × (top ≡ triangle c) × (top + (c + 1) ≤ length x₀)
 
 abbrev μ-loop : tie.MeasureT-loop
-μ-loop e z c x₀ r₀ r-end x r = c + 1 - r
+μ-loop e z c x₀ top r₀ r-end x r = c + 1 - r
 
-inside : (c : tie.After-place Inv-loop μ-loop) → c .place .result < length (c .before .before .loop .x)
-inside c =
-    let s = c .before .before .before .before .before in
-    omega (arith, packedPlace-inside (length (s .args .z .now)) (c .before .before .loop .r) (s .args .c) (omega arith) (omega arith), c .place .ensures, s .pre, c .before .before .loop .inv .0 .same)
+triangle-requires : tie.Need-triangle-requires Inv-loop μ-loop
+triangle-requires c κs = search needs
 
 add-r-end : tie.Need-add-r-end Inv-loop μ-loop
 add-r-end c = search needs
 
 loop-holds : tie.Need-loop-holds Inv-loop μ-loop
-loop-holds c = (column-none _ _ _ _ (search needs), search needs)
+loop-holds c =
+    let s = c .before .before .before in
+    let top = counted-small (c .triangle .ensures) (omega (arith, s .pre .0 .order, s .pre .1)) .0 in
+    (column-none _ _ _ _ (search needs), search needs, top, omega (arith, top, triangle-inside (s .args .c) (length (s .args .z .now)) (s .pre .1), s .pre .0 .stored))
 
-place-requires : tie.Need-place-requires Inv-loop μ-loop
-place-requires c κs = search needs
+add-p : tie.Need-add-p Inv-loop μ-loop
+add-p c = search needs
 
 mul-x : tie.Need-mul-x Inv-loop μ-loop
 mul-x c = search needs
@@ -43,16 +45,16 @@ shared-slice-read-x-2 : tie.Need-shared-slice-read-x-2 Inv-loop μ-loop
 shared-slice-read-x-2 c = search needs
 
 mul-x-3 : tie.Need-mul-x-3 Inv-loop μ-loop
-mul-x-3 c = omega (arith, inside (c .before .before))
+mul-x-3 c = search needs
 
 slice-read-x : tie.Need-slice-read-x Inv-loop μ-loop
-slice-read-x c = omega (arith, inside (c .before .before .before))
+slice-read-x c = search needs
 
 mul-x-4 : tie.Need-mul-x-4 Inv-loop μ-loop
-mul-x-4 c = omega (arith, inside (c .before .before .before))
+mul-x-4 c = search needs
 
 slice-write-x : tie.Need-slice-write-x Inv-loop μ-loop
-slice-write-x c = omega (arith, inside (c .before .before .before))
+slice-write-x c = search needs
 
 add-r : tie.Need-add-r Inv-loop μ-loop
 add-r c = search needs
@@ -62,8 +64,8 @@ loop-less c = search needs
 
 loop-again : tie.Need-loop-again Inv-loop μ-loop
 loop-again c =
-    let m = c .before .before .before .before .before in
-    (column-more (m .loop .inv .0) (search needs) (search needs) (c .before .before .before .place .ensures), search needs)
+    let m = c .before .before .before .before in
+    (column-more (m .loop .inv .0) (search needs) (search needs) (ap (λ (p : ℕ). p + m .loop .r) (m .loop .inv .2)), search needs, m .loop .inv .2, m .loop .inv .3)
 
 same-length : tie.Need-same-length Inv-loop μ-loop
 same-length c = search needs
@@ -77,9 +79,10 @@ rank1op-column-spec =
     (tie.spec
     Inv-loop
     μ-loop
+    triangle-requires
     add-r-end
     loop-holds
-    place-requires
+    add-p
     mul-x
     shared-slice-read-x
     mul-x-2

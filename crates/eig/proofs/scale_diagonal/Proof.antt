@@ -1,11 +1,13 @@
 -- `eig::scale_diagonal` meets its contract.
-use Prim.Native.Nat.{_-_, _<_}
 use native.Mathlib.Omega.{arith}
-use borrow.Author.Needs.{needs}
+use Prim.Native.Nat.{ℕ, _+_, _-_, _≤_}
+use mathlib.Core.Path.{_≡_, ap}
 use lib.ListN.{length}
-use Rattle.rules.specs.Matrices.{place}
-use Rattle.rules.proofs.Columns.{packedPlace-inside}
+use Rattle.rules.specs.Matrices.{triangle}
+use Rattle.rules.proofs.Triangle.{triangle-inside}
+use Rattle.matrix.proofs.Counted.{counted-small}
 use Rattle.eig.proofs.Diagonal.{ScaledTo, scaled-none, scaled-more, scaled-all}
+use borrow.Author.Needs.{needs}
 use Rattle.eig.proofs.scale_diagonal.Statement.{statement}
 use Rattle.eig.proofs.scale_diagonal.Tie as tie
 
@@ -15,16 +17,20 @@ Inv-loop n by x₀ k₀ x k = ScaledTo by n k x₀ x
 abbrev μ-loop : tie.MeasureT-loop
 μ-loop n by x₀ k₀ x k = n - k
 
-inside : (c : tie.After-place Inv-loop μ-loop) → c .place .result < length (c .before .before .loop .x)
+inside : (c : tie.After-triangle Inv-loop μ-loop) → (c .triangle .result ≡ triangle (c .before .before .loop .k)) × (triangle (c .before .before .loop .k) + (c .before .before .loop .k + 1) ≤ length (c .before .before .loop .x))
 inside c =
+    let s = c .before .before .before .before in
     let k = c .before .before .loop .k in
-    omega (arith, packedPlace-inside (c .before .before .before .before .args .n) k k (omega arith) (omega arith), c .place .ensures)
+    (counted-small (c .triangle .ensures) (omega (arith, s .pre .order, c .before .loop-test .taken)) .0, omega (arith, triangle-inside k (s .args .n) (c .before .loop-test .taken), s .pre .stored, c .before .before .loop .inv .same))
 
 loop-holds : tie.Need-loop-holds Inv-loop μ-loop
 loop-holds c = scaled-none _ _ _ (search needs)
 
-place-requires : tie.Need-place-requires Inv-loop μ-loop
-place-requires c κs = search needs
+triangle-requires : tie.Need-triangle-requires Inv-loop μ-loop
+triangle-requires c κs = search needs
+
+add-p : tie.Need-add-p Inv-loop μ-loop
+add-p c = omega (arith, inside c)
 
 mul-x : tie.Need-mul-x Inv-loop μ-loop
 mul-x c = omega (arith, inside c)
@@ -45,7 +51,7 @@ loop-less : tie.Need-loop-less Inv-loop μ-loop
 loop-less c = search needs
 
 loop-again : tie.Need-loop-again Inv-loop μ-loop
-loop-again c = scaled-more (c .before .before .before .loop .inv) (search needs) (c .before .place .ensures)
+loop-again c = let k = c .before .before .before .loop .k in scaled-more (c .before .before .before .loop .inv) (c .before .before .loop-test .taken) (ap (λ (p : ℕ). p + k) (inside (c .before) .0))
 
 same-length : tie.Need-same-length Inv-loop μ-loop
 same-length c = search needs
@@ -60,7 +66,8 @@ scale-diagonal-spec =
     Inv-loop
     μ-loop
     loop-holds
-    place-requires
+    triangle-requires
+    add-p
     mul-x
     slice-read-x
     mul-x-2

@@ -1,8 +1,15 @@
 -- `eig::sweep_block` meets its contract.
-use borrow.Author.Needs.{needs}
 use Rattle.eig.proofs.Halves.{swept-block}
+use mathlib.Core.Path.{_∙_, ap}
+use mathlib.Core.List.{List}
+use lib.Ieee.{Float}
+use Rattle.rules.specs.Projections.{diagonalTimes}
+use borrow.Author.Needs.{needs}
 use Rattle.eig.proofs.sweep_block.Statement.{statement}
 use Rattle.eig.proofs.sweep_block.Tie as tie
+
+root-two-requires : tie.Need-root-two-requires
+root-two-requires c κs = search needs
 
 scale-diagonal-requires : tie.Need-scale-diagonal-requires
 scale-diagonal-requires c κs = search needs
@@ -57,13 +64,15 @@ same-length-2 c = search needs
 
 returns : tie.Need-returns
 returns c =
-    let a = c .before .before .before .before .before .before .before .before .before .before .before .before .before .before .before .before .before .args in
-    swept-block (a .n) (a .tol) (a .«sweep-limit») (a .mat .now) (a .work .now) _ _ _ _ _ _ (c .before .before .before .before .before .before .before .before .before .before .before .before .before .before .before .before .before .pre .1 .0) (c .before .before .before .before .before .before .before .before .before .before .before .before .before .scale-diagonal .ensures) (c .before .before .before .before .before .before .before .before .before .start .ensures) (c .before .before .before .before .jacobi-eig .ensures) (c .before .before .before .before .jacobi-eig .kept .1 .1 .1 .1 .0)
+    let s = c .before .before .before .before .before .before .before .before .before .before .before .before .before .before .before .before .before .before in
+    let a = s .args in
+    swept-block (a .par) (a .n) (a .mat .now) (a .work .now) _ _ (s .pre .1 .0) (c .before .before .before .before .before .before .before .before .before .before .before .before .before .scale-diagonal .ensures ∙ ap (λ (v : Float). diagonalTimes v (a .n) (a .mat .now)) (c .before .before .before .before .before .before .before .before .before .before .before .before .before .before .before .root-two .ensures)) (c .before .before .before .before .before .before .before .before .before .start .ensures) (s .pre .0) (s .pre .1 .1) (c .before .before .before .before .jacobi-eig .ensures)
 
 pub sweep-block-spec : {M : Type 1} → statement M
 sweep-block-spec =
     tie.close
     (tie.spec
+    root-two-requires
     scale-diagonal-requires
     mul-start
     add-start

@@ -1,7 +1,7 @@
 -- `matop::op` meets its contract.
 use borrow.Author.Needs.{needs}
 use Rattle.rules.specs.Matrices.{opped}
-use Rattle.matop.specs.Columns.{operated}
+use Rattle.matop.specs.Operated.{operated}
 use Rattle.matop.proofs.op.Statement.{statement}
 use Rattle.matop.proofs.op.Tie as tie
 

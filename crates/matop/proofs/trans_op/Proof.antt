@@ -1,7 +1,7 @@
 -- `matop::trans_op` meets its contract.
 use borrow.Author.Needs.{needs}
 use Rattle.rules.specs.Matrices.{transOpped}
-use Rattle.matop.specs.Columns.{operated}
+use Rattle.matop.specs.Operated.{operated}
 use Rattle.matop.proofs.trans_op.Statement.{statement}
 use Rattle.matop.proofs.trans_op.Tie as tie
 

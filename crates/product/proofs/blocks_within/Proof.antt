@@ -6,6 +6,7 @@ use lib.ListN.{length}
 use borrow.Author.Tests.{not-true, not-false}
 use Rattle.rules.proofs.ConeProduct.{within-block, within-end}
 use Rattle.rules.proofs.Blocks.{blocks-bad}
+use Rattle.rules.specs.Limits.{limit}
 use Rattle.rules.specs.Product.{blocksWithin}
 use Rattle.rules.specs.Blocks.{blocksOf}
 use mathlib.Core.Logic.{⊎-elim}
@@ -44,7 +45,7 @@ returns : tie.Need-returns Inv-loop μ-loop
 returns c =
     let r = c .before .before .before .before .before in
     let l = r .before .before .before .loop in
-    let s : leb (places (c .before .before .before .block .given .0 .0)) 256 ≡ false = sym (c .before .is-within .ensures) ∙ not-true _ (c .if1 .taken) in
+    let s : leb (places (c .before .before .before .block .given .0 .0)) limit ≡ false = sym (c .before .is-within .ensures) ∙ not-true _ (c .if1 .taken) in
     sym (rw s at (within-block (r .before .before .before .before .before .args .words .now) (l .i) (search needs) _ (sym (r .read-word .ensures) ∙ c .before .before .before .block .given .1))) ∙ l .inv .0
 
 enum-told : tie.Need-enum-told Inv-loop μ-loop

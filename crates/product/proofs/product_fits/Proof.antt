@@ -2,6 +2,7 @@
 use borrow.Author.Needs.{needs}
 use native.Mathlib.Omega.{arith}
 use mathlib.Core.Path.{_≡_, sym, _∙_}
+use Rattle.rules.specs.Limits.{mostPlaces}
 use Rattle.rules.specs.Product.{sumsFit, coneWork}
 use Rattle.rules.specs.Blocks.{blocksOf}
 use borrow.Author.Tests.{not-true, not-false, le-leb, lt-leb}
@@ -35,13 +36,13 @@ returns-2 c =
     rw (good (c .before .before), s)
 
 returns-3 : tie.Need-returns-3
-returns-3 c = rw (good (c .before .before .before), enough (c .before), lt-leb (c .before .before .before .before .before .before .args .len) 288230376151711743 (c .if3 .taken))
+returns-3 c = rw (good (c .before .before .before), enough (c .before), lt-leb (c .before .before .before .before .before .before .args .len) mostPlaces (c .if3 .taken))
 
 sweeps-fit-requires : tie.Need-sweeps-fit-requires
 sweeps-fit-requires c κs = search needs
 
 returns-4 : tie.Need-returns-4
-returns-4 c = rw (good (c .before .before .before .before), enough (c .before .before), le-leb (c .before .before .before .before .before .before .before .args .len) 288230376151711743 (c .before .if3 .left)) (c .sweeps-fit .ensures)
+returns-4 c = rw (good (c .before .before .before .before), enough (c .before .before), le-leb (c .before .before .before .before .before .before .before .args .len) mostPlaces (c .before .if3 .left)) (c .sweeps-fit .ensures)
 
 pub product-fits-spec : {M : Type 1} → statement M
 product-fits-spec =

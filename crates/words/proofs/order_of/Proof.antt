@@ -1,11 +1,12 @@
 -- `words::order_of` meets its contract: from above, the first order that is small enough is the largest.
-use borrow.Author.Needs.{needs}
 use native.Mathlib.Omega.{arith}
-use Prim.Native.Nat.{_+_, _≤_}
+use Prim.Native.Nat.{_≤_, _<_}
 use mathlib.Core.Path.{_≡_, refl, sym, _∙_}
-use native.Mathlib.Nat.{mul-le-mul}
+use Rattle.rules.specs.Matrices.{triangle}
 use Rattle.rules.specs.Blocks.{orderUpTo, orderOf}
 use Rattle.rules.proofs.Blocks.{order-found, order-less}
+use Rattle.matrix.proofs.Counted.{counted-is}
+use borrow.Author.Needs.{needs}
 use Rattle.words.proofs.order_of.Statement.{statement}
 use Rattle.words.proofs.order_of.Tie as tie
 
@@ -15,18 +16,18 @@ Inv-loop size order₀ order = (order ≤ 127) × (orderUpTo order size ≡ orde
 abbrev μ-loop : tie.MeasureT-loop
 μ-loop size order₀ order = order
 
+is : (c : tie.After-triangle Inv-loop μ-loop) → c .triangle .result ≡ triangle (c .before .before .loop .order)
+is c = c .triangle .ensures ∙ counted-is _ (omega (arith, c .before .before .loop .inv .0))
+
 loop-holds : tie.Need-loop-holds Inv-loop μ-loop
 unfolding orderOf
 loop-holds c = (search needs, refl)
 
-add-if1 : tie.Need-add-if1 Inv-loop μ-loop
-add-if1 c = search needs
-
-mul-if1 : tie.Need-mul-if1 Inv-loop μ-loop
-mul-if1 c = omega (arith, mul-le-mul (c .before .loop .inv .0) (let h : c .before .loop .order + 1 ≤ 128 = omega arith in h))
+triangle-requires : tie.Need-triangle-requires Inv-loop μ-loop
+triangle-requires c κs = search needs
 
 returns : tie.Need-returns Inv-loop μ-loop
-returns c = sym (order-found _ _ (c .before .loop-test .taken) (c .if1 .taken)) ∙ c .before .before .loop .inv .1
+returns c = sym (order-found _ _ (c .before .before .loop-test .taken) (omega (arith, is (c .before), c .if1 .taken))) ∙ c .before .before .before .loop .inv .1
 
 sub-order : tie.Need-sub-order Inv-loop μ-loop
 sub-order c = search needs
@@ -35,7 +36,7 @@ loop-less : tie.Need-loop-less Inv-loop μ-loop
 loop-less c = search needs
 
 loop-again : tie.Need-loop-again Inv-loop μ-loop
-loop-again c = (search needs, sym (order-less _ _ (c .before .loop-test .taken) (c .if1 .left)) ∙ c .before .before .loop .inv .1)
+loop-again c = (search needs, sym (order-less _ _ (c .before .before .loop-test .taken) (omega (arith, is (c .before), c .if1 .left))) ∙ c .before .before .before .loop .inv .1)
 
 returns-2 : tie.Need-returns-2 Inv-loop μ-loop
 unfolding orderUpTo
@@ -48,8 +49,7 @@ order-of-spec =
     Inv-loop
     μ-loop
     loop-holds
-    add-if1
-    mul-if1
+    triangle-requires
     returns
     sub-order
     loop-less

@@ -1,11 +1,12 @@
 -- `words::read_word` meets its contract.
 use borrow.Author.Needs.{needs}
 use native.Mathlib.Omega.{arith}
-use Prim.Native.Nat.{_+_, _/_, _%_, _≤_}
-use mathlib.Core.Path.{sym}
+use Prim.Native.Nat.{_/_, _%_, _≤_}
+use mathlib.Core.Path.{_≡_, sym, _∙_}
 use Rattle.rules.proofs.Blocks.{order-most, reserved}
+use Rattle.rules.specs.Matrices.{triangle}
 use Rattle.rules.specs.Blocks.{readWord, readKind}
-use native.Mathlib.Nat.{mul-le-mul}
+use Rattle.matrix.proofs.Counted.{counted-is}
 use borrow.Author.Tests.{eq-eqb, ne-eqb}
 use Rattle.words.proofs.read_word.Statement.{statement}
 use Rattle.words.proofs.read_word.Tie as tie
@@ -19,13 +20,12 @@ order-of-requires c κs = search needs
 order-small : (c : tie.After-order-of) → c .order-of .result ≤ 127
 order-small c = rw (c .order-of .ensures) (order-most _)
 
-add-if1 : tie.Need-add-if1
-add-if1 c = omega (arith, order-small c)
+triangle-requires : tie.Need-triangle-requires
+triangle-requires c κs = search needs
 
-mul-if1 : tie.Need-mul-if1
-mul-if1 c =
-    let h : c .order-of .result + 1 ≤ 128 = omega (arith, order-small c) in
-    omega (arith, mul-le-mul (order-small c) h)
+-- the order's triangle is counted
+is : (c : tie.After-triangle) → c .triangle .result ≡ triangle (c .before .order-of .result)
+is c = c .triangle .ensures ∙ counted-is _ (omega (arith, order-small (c .before)))
 
 returns : tie.Need-returns
 unfolding readWord readKind
@@ -45,11 +45,11 @@ returns-4 c = rw (c .match .keys4)
 
 returns-5 : tie.Need-returns-5
 unfolding readWord readKind
-returns-5 c = rw (c .before .before .match .keys5, ← c .before .order-of .ensures, eq-eqb _ _ (c .if1 .taken))
+returns-5 c = rw (c .before .before .before .match .keys5, ← c .before .before .order-of .ensures, eq-eqb _ _ (sym (is (c .before)) ∙ c .if1 .taken))
 
 returns-6 : tie.Need-returns-6
 unfolding readWord readKind
-returns-6 c = rw (c .before .before .match .keys5, ← c .before .order-of .ensures, ne-eqb _ _ (c .if1 .left))
+returns-6 c = rw (c .before .before .before .match .keys5, ← c .before .before .order-of .ensures, ne-eqb _ _ (λ e. c .if1 .left (is (c .before) ∙ e)))
 
 returns-7 : tie.Need-returns-7
 unfolding readWord
@@ -61,8 +61,7 @@ read-word-spec =
     (tie.spec
     cast-size
     order-of-requires
-    add-if1
-    mul-if1
+    triangle-requires
     returns
     returns-2
     returns-3

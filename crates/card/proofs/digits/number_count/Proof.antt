@@ -1,55 +1,29 @@
 -- `card::digits::number_count` meets its contract.
 use borrow.Author.Needs.{needs}
 use native.Mathlib.Omega.{arith}
-use Rattle.card.proofs.Counts.{triangle-most, product-most}
+use mathlib.Core.Path.{_∙_}
+use Rattle.card.proofs.Counts.{stored-is}
 use Rattle.card.proofs.digits.number_count.Statement.{statement}
 use Rattle.card.proofs.digits.number_count.Tie as tie
 
 add-result : tie.Need-add-result
 add-result c = search needs
 
+stored-requires : tie.Need-stored-requires
+stored-requires c κs = search needs
+
 add-result-2 : tie.Need-add-result-2
 add-result-2 c = search needs
 
-mul-result : tie.Need-mul-result
-mul-result c = omega (arith, triangle-most (c .before .args .n) (omega arith))
-
 add-result-3 : tie.Need-add-result-3
-add-result-3 c = omega (arith, triangle-most (c .before .args .n) (omega arith))
-
-add-result-4 : tie.Need-add-result-4
-add-result-4 c = omega (arith, triangle-most (c .before .args .n) (omega arith))
+add-result-3 c = search needs
 
 returns : tie.Need-returns
-returns c = (rw (c .if1 .taken), omega (arith, triangle-most (c .before .args .n) (omega arith)))
-
-add-result-5 : tie.Need-add-result-5
-add-result-5 c = search needs
-
-mul-result-2 : tie.Need-mul-result-2
-mul-result-2 c = omega (arith, product-most (c .before .args .m) (c .before .args .n) (omega arith) (omega arith))
-
-add-result-6 : tie.Need-add-result-6
-add-result-6 c = omega (arith, product-most (c .before .args .m) (c .before .args .n) (omega arith) (omega arith))
-
-add-result-7 : tie.Need-add-result-7
-add-result-7 c = omega (arith, product-most (c .before .args .m) (c .before .args .n) (omega arith) (omega arith))
-
-returns-2 : tie.Need-returns-2
-returns-2 c = (rw (c .if1 .left), omega (arith, product-most (c .before .args .m) (c .before .args .n) (omega arith) (omega arith)))
+returns c =
+    let a = c .before .before .before .args in
+    let is = c .before .stored .ensures .0 ∙ stored-is (a .packed) (a .rows) (a .cols) (omega arith) (omega arith) in
+    (rw is, omega (arith, c .before .stored .ensures .1))
 
 pub number-count-spec : {M : Type 1} → statement M
 number-count-spec =
-    tie.close
-    (tie.spec
-    add-result
-    add-result-2
-    mul-result
-    add-result-3
-    add-result-4
-    returns
-    add-result-5
-    mul-result-2
-    add-result-6
-    add-result-7
-    returns-2)
+    tie.close (tie.spec add-result stored-requires add-result-2 add-result-3 returns)

@@ -1,4 +1,4 @@
--- `card::digits::power` meets its contract: after k turns it is 2 ^ k.
+-- `card::digits::power` meets its contract: after k passes it is 2 ^ k.
 use borrow.Author.Needs.{needs}
 use native.Mathlib.Omega.{arith}
 use native.Mathlib.Nat.{pow-suc, pow-le-pow-right}

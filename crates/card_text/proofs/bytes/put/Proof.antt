@@ -1,4 +1,4 @@
--- `card_text::bytes::put` meets its contract: the text grows by a byte a turn.
+-- `card_text::bytes::put` meets its contract: the text grows by a byte at a time.
 use borrow.Author.Needs.{needs}
 use native.Mathlib.Omega.{arith}
 use Prim.Native.Nat.{_+_, _-_, _≤_}

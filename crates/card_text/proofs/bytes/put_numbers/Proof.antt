@@ -1,4 +1,4 @@
--- `card_text::bytes::put_numbers` meets its contract: the text grows by a line a turn.
+-- `card_text::bytes::put_numbers` meets its contract: the text grows by a line at a time.
 use borrow.Author.Needs.{needs}
 use native.Mathlib.Omega.{arith}
 use Prim.Native.Nat.{_+_, _-_, _*_, _≤_}

@@ -1,7 +1,9 @@
 -- `solver::entry::accepted` meets its contract: the vectors start as +0, and of cone work the required part is lent.
+use Prim.Native.Nat.{_+_, _*_}
 use mathlib.Core.Path.{refl}
 use borrow.Author.Needs.{needs}
-use Rattle.rules.specs.Problem.{problemOf}
+use Rattle.rules.specs.Limits.{limit}
+use Rattle.rules.specs.Problem.{problemIn}
 use Rattle.solver.proofs.Outcomes.{lent, at-zero, left-as}
 use Rattle.solver.proofs.entry.accepted.Statement.{statement}
 use Rattle.solver.proofs.entry.accepted.Tie as tie
@@ -90,9 +92,9 @@ part-run-in-end c = search needs
 run-in-requires : tie.Need-run-in-requires
 run-in-requires c κs =
     let k = c .before .before .before .before .before .before .before .before .before .before .before .before .before .before .before .args in
-    let p = problemOf (k .m) (k .n) (k .storage) (k .c .now) (k .a .now) (k .b .now) (k .words .now) (k .par) in
+    let p = problemIn (k .shape) (k .c .now) (k .a .now) (k .b .now) (k .words .now) (k .par) in
     let t = c .before .before .before .before .before .before .before .before .before .before .before .before .before .before .before .pre in
-    (lent p (k .work .now) (k .cone-work .now) t _ (c .before .before .before .before .before .before .before .before .cone-work-len .ensures), at-zero (k .m) (k .n) (t .ready .operators .m-within) (t .ready .operators .n-within) 769 513 refl refl)
+    (lent p (k .work .now) (k .cone-work .now) t _ (c .before .before .before .before .before .before .before .before .cone-work-len .ensures), at-zero (k .shape) (t .ready .operators .m-within) (t .ready .operators .n-within) (3 * limit + 1) (2 * limit + 1) refl refl)
 
 same-length : tie.Need-same-length
 same-length c = search needs
@@ -103,8 +105,41 @@ same-length-2 c = search needs
 returns : tie.Need-returns
 returns c =
     let k = c .before .before .before .before .before .before .before .before .before .before .before .before .before .before .before .before .before .before .before .before .before .before .before .before .before .before .args in
-    let p = problemOf (k .m) (k .n) (k .storage) (k .c .now) (k .a .now) (k .b .now) (k .words .now) (k .par) in
+    let p = problemIn (k .shape) (k .c .now) (k .a .now) (k .b .now) (k .words .now) (k .par) in
     left-as p (k .work .now) (k .cone-work .now) _ (c .before .before .before .before .before .before .before .before .before .before .before .before .before .before .before .before .before .before .before .cone-work-len .ensures) _ _ _ (c .before .before .before .before .before .before .before .before .before .before .run-in .ensures)
 
 pub accepted-spec : {M : Type 1} → statement M
-accepted-spec = tie.close (tie.spec add-nx add-nx-2 add-nx-3 add-ny add-ny-2 cone-work-len-requires sub-run-in part-x-start part-x-end sub-run-in-2 part-y-start part-y-end sub-run-in-3 part-dp-tau-start part-dp-tau-end sub-run-in-4 part-dp-sigma-start part-dp-sigma-end sub-run-in-5 part-rx-start part-rx-end sub-run-in-6 part-tx-start part-tx-end sub-run-in-7 part-run-in-start part-run-in-end run-in-requires same-length same-length-2 returns)
+accepted-spec =
+    tie.close
+    (tie.spec
+    add-nx
+    add-nx-2
+    add-nx-3
+    add-ny
+    add-ny-2
+    cone-work-len-requires
+    sub-run-in
+    part-x-start
+    part-x-end
+    sub-run-in-2
+    part-y-start
+    part-y-end
+    sub-run-in-3
+    part-dp-tau-start
+    part-dp-tau-end
+    sub-run-in-4
+    part-dp-sigma-start
+    part-dp-sigma-end
+    sub-run-in-5
+    part-rx-start
+    part-rx-end
+    sub-run-in-6
+    part-tx-start
+    part-tx-end
+    sub-run-in-7
+    part-run-in-start
+    part-run-in-end
+    run-in-requires
+    same-length
+    same-length-2
+    returns)

@@ -39,4 +39,15 @@ returns-2 c =
     went-through (k .rows .0) (k .cols .0) (k .storage) (k .c .now) (k .a .now) (k .b .now) (k .words .now) (k .par) (k .work .now) (k .cone-work .now) _ (c .before .before .before .before .before .before .before .before .before .before .check .ensures) (c .before .before .before .before .before .before .before .before .enum-told .given .1) _ (c .before .before .before .before .before .before .before .read-eps .ensures) _ _ _ (c .before .before .before .before .accepted .ensures)
 
 pub solve-spec : {M : Type 1} → statement M
-solve-spec = tie.close (tie.spec check-requires enum-known-found enum-told read-eps-requires accepted-requires returns same-length same-length-2 returns-2)
+solve-spec =
+    tie.close
+    (tie.spec
+    check-requires
+    enum-known-found
+    enum-told
+    read-eps-requires
+    accepted-requires
+    returns
+    same-length
+    same-length-2
+    returns-2)

@@ -1,8 +1,8 @@
 -- `solver::solving::run_in` meets its contract.
 use native.Mathlib.Omega.{arith}
 use borrow.Author.Needs.{needs}
-use Rattle.solver.proofs.Whole.{zero-x, zero-y, zero-tau, zero-sigma, zero-rx, zero-tx, cleared-needed, prepared-x, prepared-y, prepared-tau, prepared-sigma, whole-run, ran-in}
-use Rattle.solution.proofs.Settled.{settled-if-fitting}
+use Rattle.solver.proofs.Whole.{covers, zero-x, zero-y, zero-tau, zero-sigma, zero-rx, zero-tx, cleared-long, prepared-x, prepared-y, prepared-tau, prepared-sigma, whole-run, ran-in}
+use Rattle.settle.proofs.Settled.{settled-if-fitting}
 use Rattle.solver.proofs.solving.run_in.Statement.{statement}
 use Rattle.solver.proofs.solving.run_in.Tie as tie
 
@@ -13,7 +13,7 @@ prepare-all-requires : tie.Need-prepare-all-requires
 prepare-all-requires c κs =
     let start = c .before .before .before .before .before .before .before .before .before .before .before .before .before .before .before .before .before .before .before .before in
     let z = start .pre .1 in
-    (start .pre .0 .ready, (zero-x z, (zero-y z, (zero-tau z, zero-sigma z))))
+    record { operators = start .pre .0 .ready .operators; covers = covers (start .pre .0 .ready); x-like = zero-x z; y-like = zero-y z; tau-like = zero-tau z; sigma-like = zero-sigma z }
 
 iterate-requires : tie.Need-iterate-requires
 iterate-requires c κs =
@@ -22,42 +22,43 @@ iterate-requires c κs =
     let before = c .before .before .before .before .before .before .before .before .before .before .before .before .before .before .before .prepare-all in
     let z = start .pre .1 in
     let q = before .ensures in
-    (start .pre .0 .ready, (prepared-x z q, (prepared-y z q, (prepared-tau z q, (prepared-sigma z q, (zero-rx z, (zero-tx z, (cleared-needed (start .pre .0) (cleared .ensures), start .pre .0 .steps))))))))
+    let r = start .pre .0 .ready in
+    (record { operators = r .operators; cones = record { within = r .operators .m-within; readable = r .readable; places = r .places; sweeps = r .sweeps; enough = omega (arith, cleared-long (start .pre .0) (cleared .ensures)) }; x-like = prepared-x z q; y-like = prepared-y z q; tau-like = prepared-tau z q; sigma-like = prepared-sigma z q; rx-like = zero-rx z; tx-like = zero-tx z }, start .pre .0 .steps)
 
 settle-requires : tie.Need-settle-requires
 settle-requires c κs = search needs
 
 same-length : tie.Need-same-length
 same-length c =
-    let before = c .before .before .before .before .before .before .before .before .before .before .before .before .before .before .before .before .before .before .before .before .before .before .before .before .before .before .before .before .before .before .before .before .before .before .before .before .before .before .before .before .before .prepare-all in
-    let steps = c .before .before .before .before .before .before .before .before .before .before .before .before .before .before .before .before .before .before .before .before .before .before .before .before .before .iterate in
+    let before = c .before .before .before .before .before .before .before .before .before .before .before .before .before .before .before .before .before .before .before .before .before .before .before .before .before .before .before .before .before .before .before .before .before .before .before .before .before .before .before .before .before .before .before .prepare-all in
+    let steps = c .before .before .before .before .before .before .before .before .before .before .before .before .before .before .before .before .before .before .before .before .before .before .before .before .before .before .before .iterate in
     let after = c .before .before .before .before .before .before .settle in
     omega (arith, before .kept, steps .kept, after .kept)
 
 same-length-2 : tie.Need-same-length-2
 same-length-2 c =
-    let before = c .before .before .before .before .before .before .before .before .before .before .before .before .before .before .before .before .before .before .before .before .before .before .before .before .before .before .before .before .before .before .before .before .before .before .before .before .before .before .before .before .before .prepare-all in
-    let steps = c .before .before .before .before .before .before .before .before .before .before .before .before .before .before .before .before .before .before .before .before .before .before .before .before .before .iterate in
+    let before = c .before .before .before .before .before .before .before .before .before .before .before .before .before .before .before .before .before .before .before .before .before .before .before .before .before .before .before .before .before .before .before .before .before .before .before .before .before .before .before .before .before .before .before .prepare-all in
+    let steps = c .before .before .before .before .before .before .before .before .before .before .before .before .before .before .before .before .before .before .before .before .before .before .before .before .before .before .before .iterate in
     omega (arith, before .kept, steps .kept)
 
 same-length-3 : tie.Need-same-length-3
 same-length-3 c =
-    let before = c .before .before .before .before .before .before .before .before .before .before .before .before .before .before .before .before .before .before .before .before .before .before .before .before .before .before .before .before .before .before .before .before .before .before .before .before .before .before .before .before .before .prepare-all in
+    let before = c .before .before .before .before .before .before .before .before .before .before .before .before .before .before .before .before .before .before .before .before .before .before .before .before .before .before .before .before .before .before .before .before .before .before .before .before .before .before .before .before .before .before .before .prepare-all in
     omega (arith, before .kept)
 
 same-length-4 : tie.Need-same-length-4
 same-length-4 c =
-    let before = c .before .before .before .before .before .before .before .before .before .before .before .before .before .before .before .before .before .before .before .before .before .before .before .before .before .before .before .before .before .before .before .before .before .before .before .before .before .before .before .before .before .prepare-all in
+    let before = c .before .before .before .before .before .before .before .before .before .before .before .before .before .before .before .before .before .before .before .before .before .before .before .before .before .before .before .before .before .before .before .before .before .before .before .before .before .before .before .before .before .before .before .prepare-all in
     omega (arith, before .kept)
 
 same-length-5 : tie.Need-same-length-5
 same-length-5 c =
-    let steps = c .before .before .before .before .before .before .before .before .before .before .before .before .before .before .before .before .before .before .before .before .before .before .before .before .before .iterate in
+    let steps = c .before .before .before .before .before .before .before .before .before .before .before .before .before .before .before .before .before .before .before .before .before .before .before .before .before .before .before .iterate in
     omega (arith, steps .kept)
 
 same-length-6 : tie.Need-same-length-6
 same-length-6 c =
-    let steps = c .before .before .before .before .before .before .before .before .before .before .before .before .before .before .before .before .before .before .before .before .before .before .before .before .before .iterate in
+    let steps = c .before .before .before .before .before .before .before .before .before .before .before .before .before .before .before .before .before .before .before .before .before .before .before .before .before .before .before .iterate in
     omega (arith, steps .kept)
 
 same-length-7 : tie.Need-same-length-7
@@ -67,17 +68,17 @@ same-length-7 c =
 
 same-length-8 : tie.Need-same-length-8
 same-length-8 c =
-    let cleared = c .before .before .before .before .before .before .before .before .before .before .before .before .before .before .before .before .before .before .before .before .before .before .before .before .before .before .before .before .before .before .before .before .before .before .before .before .before .before .before .before .before .before .before .before .before .before .before .before .clear in
-    let steps = c .before .before .before .before .before .before .before .before .before .before .before .before .before .before .before .before .before .before .before .before .before .before .before .before .before .iterate in
+    let cleared = c .before .before .before .before .before .before .before .before .before .before .before .before .before .before .before .before .before .before .before .before .before .before .before .before .before .before .before .before .before .before .before .before .before .before .before .before .before .before .before .before .before .before .before .before .before .before .before .before .before .before .clear in
+    let steps = c .before .before .before .before .before .before .before .before .before .before .before .before .before .before .before .before .before .before .before .before .before .before .before .before .before .before .before .iterate in
     let after = c .before .before .before .before .before .before .settle in
     omega (arith, cleared .kept, steps .kept, after .kept)
 
 returns : tie.Need-returns
 returns c =
-    let start = c .before .before .before .before .before .before .before .before .before .before .before .before .before .before .before .before .before .before .before .before .before .before .before .before .before .before .before .before .before .before .before .before .before .before .before .before .before .before .before .before .before .before .before .before .before .before .before .before .before .before .before .before .before .before .before .before .before .before .before .before .before .before in
-    let cleared = c .before .before .before .before .before .before .before .before .before .before .before .before .before .before .before .before .before .before .before .before .before .before .before .before .before .before .before .before .before .before .before .before .before .before .before .before .before .before .before .before .before .before .before .before .before .before .before .before .clear in
-    let before = c .before .before .before .before .before .before .before .before .before .before .before .before .before .before .before .before .before .before .before .before .before .before .before .before .before .before .before .before .before .before .before .before .before .before .before .before .before .before .before .before .before .prepare-all in
-    let steps = c .before .before .before .before .before .before .before .before .before .before .before .before .before .before .before .before .before .before .before .before .before .before .before .before .before .iterate in
+    let start = c .before .before .before .before .before .before .before .before .before .before .before .before .before .before .before .before .before .before .before .before .before .before .before .before .before .before .before .before .before .before .before .before .before .before .before .before .before .before .before .before .before .before .before .before .before .before .before .before .before .before .before .before .before .before .before .before .before .before .before .before .before .before .before .before in
+    let cleared = c .before .before .before .before .before .before .before .before .before .before .before .before .before .before .before .before .before .before .before .before .before .before .before .before .before .before .before .before .before .before .before .before .before .before .before .before .before .before .before .before .before .before .before .before .before .before .before .before .before .before .clear in
+    let before = c .before .before .before .before .before .before .before .before .before .before .before .before .before .before .before .before .before .before .before .before .before .before .before .before .before .before .before .before .before .before .before .before .before .before .before .before .before .before .before .before .before .before .before .prepare-all in
+    let steps = c .before .before .before .before .before .before .before .before .before .before .before .before .before .before .before .before .before .before .before .before .before .before .before .before .before .before .before .iterate in
     let after = c .before .before .before .before .before .before .settle in
     let z = start .pre .1 in
     let q = before .ensures in

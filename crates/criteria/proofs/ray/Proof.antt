@@ -1,0 +1,89 @@
+-- `criteria::ray` meets its contract.
+use Prim.Native.Nat.{_+_}
+use native.Mathlib.Omega.{arith}
+use mathlib.Core.Path.{refl, sym, _∙_}
+use mathlib.Core.List.{[], _∷_}
+use borrow.Author.Needs.{needs}
+use Rattle.rules.specs.Helpers.{one}
+use Rattle.rules.specs.Step.{part}
+use Rattle.rules.proofs.Kernels.{add-ruled, op-ruled}
+use Rattle.rules.proofs.Parts.{places, from-start}
+use Rattle.shape.proofs.Fitting.{long-x, long-s}
+use Rattle.criteria.proofs.ray.Statement.{statement}
+use Rattle.criteria.proofs.ray.Tie as tie
+
+add-nm : tie.Need-add-nm
+add-nm c = search needs
+
+add-nmm : tie.Need-add-nmm
+add-nmm c = search needs
+
+matrix-of-requires : tie.Need-matrix-of-requires
+matrix-of-requires c κs = search needs
+
+mul-copy : tie.Need-mul-copy
+mul-copy c = search needs
+
+sub-copy : tie.Need-sub-copy
+sub-copy c = search needs
+
+part-copy-start : tie.Need-part-copy-start
+part-copy-start c = search needs
+
+part-copy-end : tie.Need-part-copy-end
+part-copy-end c = search needs
+
+copy-requires : tie.Need-copy-requires
+copy-requires c κs = search needs
+
+sub-op : tie.Need-sub-op
+sub-op c = search needs
+
+part-op-start : tie.Need-part-op-start
+part-op-start c = search needs
+
+part-op-end : tie.Need-part-op-end
+part-op-end c = search needs
+
+op-requires : tie.Need-op-requires
+op-requires c κs = search needs
+
+norm-requires : tie.Need-norm-requires
+norm-requires c κs = search needs
+
+same-length : tie.Need-same-length
+same-length c = search needs
+
+returns : tie.Need-returns
+unfolding one
+returns c =
+    let s = c .before .before .before .before .before .before .before .before .before .before .before .before .before .before .before .before in
+    let k = s .args in
+    let n = k .shape .cols .0 in
+    let m = k .shape .rows .0 in
+    let f = s .pre .0 in
+    let like = s .pre .1 .0 in
+    let long = s .pre .1 .1 in
+    let first = add-ruled (part (n + m) m (k .x .now)) (rw (places (n + m) m) at (c .before .before .before .before .before .before .before .before .before .copy .ensures)) (long-s like ∙ sym long) in
+    let second = op-ruled (part 0 n (k .x .now)) (rw (c .before .before .before .before .before .before .before .before .before .before .before .before .matrix-of .ensures, from-start n) at (c .before .before .before .before .op .ensures)) (f .stored) (long-x like ∙ sym (f .cols)) (omega (arith, c .before .before .before .before .before .before .before .before .before .copy .kept, long, f .rows)) in
+    (second ∙ rw first, c .norm .ensures)
+
+pub ray-spec : {M : Type 1} → statement M
+ray-spec =
+    tie.close
+    (tie.spec
+    add-nm
+    add-nmm
+    matrix-of-requires
+    mul-copy
+    sub-copy
+    part-copy-start
+    part-copy-end
+    copy-requires
+    sub-op
+    part-op-start
+    part-op-end
+    op-requires
+    norm-requires
+    same-length
+    returns)

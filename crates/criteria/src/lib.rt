@@ -1,0 +1,296 @@
+// The criteria of a step, which are worked out at the front of rx: criteria_conv and criteria_inf of
+// solver.rs.
+use rules::Criteria;
+use rules::Norms;
+use rules::Shape;
+use rules::SolverParam;
+use shape::column;
+use shape::fits_x;
+use shape::matrix_of;
+use shape::operators_fit;
+ghost use mathlib.Core.Path.{_≡_};
+ghost use lib.ListN.{length};
+ghost use Rattle.rules.specs.Arithmetic.{at, _+ᶠ_, _/ᶠ_};
+ghost use Rattle.rules.specs.Criteria as rules;
+ghost use Rattle.rules.specs.Criteria.{converging, diverging, judged};
+ghost use Rattle.rules.specs.Helpers.{one, magnitude};
+ghost use Rattle.rules.specs.Matrices.{Stored};
+ghost use Rattle.rules.specs.Problem.{embedIn};
+ghost use Rattle.rules.specs.Problem as problem;
+ghost use Rattle.rules.specs.Vectors.{norm};
+ghost use Rattle.shape.specs.Fitting.{Fits, LikeX, Sized};
+ghost use Rattle.criteria.specs.Residuals.{primalAt, dualAt, rayAt, dualRayAt, productX, productY};
+ghost use Rattle.criteria.specs.Judging.{judgeFits, JudgeOutcome};
+
+// What a step's criteria are, or a plain no.
+pub enum Judgement {
+    Of(Criteria),
+    No,
+}
+
+// The criteria of a step, by tau: at the front of rx stand the residuals afterwards. Where a length or a size doesn't
+// fit, it answers no and changes nothing.
+pub fn judge(
+    par: SolverParam,
+    shape: Shape,
+    c: &[f64],
+    a: &[f64],
+    b: &[f64],
+    norms: Norms,
+    x: &[f64],
+    rx: &mut [f64],
+) -> Judgement
+    ensures { λ r. ⌜
+        JudgeOutcome
+        (judgeFits shape (now (c .entry)) (now (a .entry)) (now (b .entry)) (now (x .entry)) (now (rx .entry)))
+        (judged (embedIn shape (now (c .entry)) (now (a .entry)) (now (b .entry))) (par .«eps_zero») norms
+        (now (x .entry)) (now (rx .entry)))
+        (now (rx .entry)) r (now (rx .exit))
+        ⌝ }
+{
+    if !fits(shape, c, a, b, x, rx) {
+        return Judgement::No;
+    }
+    let r = judge_by_tau(par, shape, c, a, b, norms, x, rx);
+    Judgement::Of(r)
+}
+
+// The criteria of convergence where tau is above eps_zero, else the two others.
+fn judge_by_tau(
+    par: SolverParam,
+    shape: Shape,
+    c: &[f64],
+    a: &[f64],
+    b: &[f64],
+    norms: Norms,
+    x: &[f64],
+    rx: &mut [f64],
+) -> Criteria
+    requires { ⌜ Fits shape (now c) (now a) (now b) ⌝ }
+    requires { ⌜ LikeX shape (now x) ⌝ }
+    requires { ⌜ LikeX shape (now rx) ⌝ }
+    ensures says { λ r. ⌜
+        r
+        ≡ judged (embedIn shape (now (c .entry)) (now (a .entry)) (now (b .entry))) (par .«eps_zero») norms
+        (now (x .entry)) (now (rx .entry)) .criteria
+        ⌝ }
+    ensures rx_left { λ r. ⌜
+        now (rx .exit)
+        ≡ judged (embedIn shape (now (c .entry)) (now (a .entry)) (now (b .entry))) (par .«eps_zero») norms
+        (now (x .entry)) (now (rx .entry)) .rx
+        ⌝ }
+{
+    let m = shape.rows.0;
+    let n = shape.cols.0;
+    if x[n + m + m] > par.eps_zero {
+        criteria_conv(shape, c, a, b, norms, x, rx)
+    } else {
+        criteria_inf(par, shape, c, a, b, norms, x, rx)
+    }
+}
+
+// Whether c, A and b, x and rx have the lengths that the shape says.
+fn fits(shape: Shape, c: &[f64], a: &[f64], b: &[f64], x: &[f64], rx: &[f64]) -> bool
+    ensures { λ r. ⌜ r ≡ judgeFits shape (now (c .entry)) (now (a .entry)) (now (b .entry)) (now (x .entry)) (now (rx .entry)) ⌝ }
+{
+    if !operators_fit(shape, c, a, b) {
+        return false;
+    }
+    if !fits_x(shape, x) {
+        return false;
+    }
+    fits_x(shape, rx)
+}
+
+// The three criteria of convergence, where tau is above eps_zero.
+fn criteria_conv(
+    shape: Shape,
+    c: &[f64],
+    a: &[f64],
+    b: &[f64],
+    norms: Norms,
+    x: &[f64],
+    rx: &mut [f64],
+) -> Criteria
+    requires { ⌜ Fits shape (now c) (now a) (now b) ⌝ }
+    requires { ⌜ LikeX shape (now x) ⌝ }
+    requires { ⌜ LikeX shape (now rx) ⌝ }
+    ensures says { λ r. ⌜
+        r
+        ≡ converging (embedIn shape (now (c .entry)) (now (a .entry)) (now (b .entry))) norms (now (x .entry))
+        (now (rx .entry)) .criteria
+        ⌝ }
+    ensures rx_left { λ r. ⌜
+        now (rx .exit)
+        ≡ converging (embedIn shape (now (c .entry)) (now (a .entry)) (now (b .entry))) norms (now (x .entry))
+        (now (rx .entry)) .rx
+        ⌝ }
+{
+    let m = shape.rows.0;
+    let n = shape.cols.0;
+    let mn = m + n;
+    let scale = float::reciprocal(x[n + m + m]);
+    let pri = primal_residual(shape, a, b, scale, x, &mut rx[0..m]);
+    let dual = dual_residual(shape, c, a, scale, x, &mut rx[m..mn]);
+    let g = objectives(shape, c, b, scale, 1.0, x);
+    Criteria::Conv(
+        pri / (1.0 + norms.b),
+        dual / (1.0 + norms.c),
+        gap(g.cx, g.by),
+    )
+}
+
+// p becomes s / tau - b + A * x / tau; its norm.
+fn primal_residual(shape: Shape, a: &[f64], b: &[f64], scale: f64, x: &[f64], p: &mut [f64]) -> f64
+    requires { ⌜ Sized shape (now a) ⌝ }
+    requires { ⌜ Stored (problem.column (shape .rows .0)) (now b) ⌝ }
+    requires { ⌜ LikeX shape (now x) ⌝ }
+    requires { ⌜ length (now p) ≡ shape .rows .0 ⌝ }
+    ensures p_left { λ r. ⌜ now (p .exit) ≡ primalAt shape (now (a .entry)) (now (b .entry)) scale (now (x .entry)) ⌝ }
+    ensures is_norm { λ r. ⌜ r ≡ norm (now (p .exit)) ⌝ }
+{
+    let one = [1.0; 1];
+    let m = shape.rows.0;
+    let n = shape.cols.0;
+    let nm = n + m;
+    let nmm = nm + m;
+    let t = matrix_of(shape);
+    linalg::copy(&x[nm..nmm], p);
+    matop::op(column(m), -1.0, b, &one, scale, p);
+    matop::op(t, scale, a, &x[0..n], 1.0, p);
+    linalg::norm(p)
+}
+
+// d becomes c + A transposed * y / tau; its norm.
+fn dual_residual(shape: Shape, c: &[f64], a: &[f64], scale: f64, x: &[f64], d: &mut [f64]) -> f64
+    requires { ⌜ Sized shape (now a) ⌝ }
+    requires { ⌜ Stored (problem.column (shape .cols .0)) (now c) ⌝ }
+    requires { ⌜ LikeX shape (now x) ⌝ }
+    requires { ⌜ length (now d) ≡ shape .cols .0 ⌝ }
+    ensures d_left { λ r. ⌜ now (d .exit) ≡ dualAt shape (now (c .entry)) (now (a .entry)) scale (now (x .entry)) (now (d .entry)) ⌝ }
+    ensures is_norm { λ r. ⌜ r ≡ norm (now (d .exit)) ⌝ }
+{
+    let one = [1.0; 1];
+    let m = shape.rows.0;
+    let n = shape.cols.0;
+    let nm = n + m;
+    let t = matrix_of(shape);
+    matop::op(column(n), 1.0, c, &one, 0.0, d);
+    matop::trans_op(t, scale, a, &x[n..nm], 1.0, d);
+    linalg::norm(d)
+}
+
+// The gap between c * x / tau and -b * y / tau, which are g_x and -g_y.
+fn gap(g_x: f64, g_y: f64) -> f64
+    ensures { λ r. ⌜ r ≡ magnitude («g_x» +ᶠ «g_y») /ᶠ (one +ᶠ magnitude «g_x» +ᶠ magnitude «g_y») ⌝ }
+{
+    float::magnitude(g_x + g_y) / (1.0 + float::magnitude(g_x) + float::magnitude(g_y))
+}
+
+// alpha * c * x and alpha * b * y.
+struct Products {
+    cx: f64,
+    by: f64,
+}
+
+// Both products are worked out in one place, which each first multiplies by 0: the first multiplies
+// start, the second what the first left.
+fn objectives(shape: Shape, c: &[f64], b: &[f64], alpha: f64, start: f64, x: &[f64]) -> Products
+    requires { ⌜ Stored (problem.column (shape .cols .0)) (now c) ⌝ }
+    requires { ⌜ Stored (problem.column (shape .rows .0)) (now b) ⌝ }
+    requires { ⌜ LikeX shape (now x) ⌝ }
+    ensures of_x { λ r. ⌜ r .cx ≡ at (productX shape (now (c .entry)) alpha start (now (x .entry))) 0 ⌝ }
+    ensures of_y { λ r. ⌜ r .by ≡ at (productY shape (now (c .entry)) (now (b .entry)) alpha start (now (x .entry))) 0 ⌝ }
+{
+    let mut one = [start; 1];
+    let m = shape.rows.0;
+    let n = shape.cols.0;
+    let nm = n + m;
+    matop::trans_op(column(n), alpha, c, &x[0..n], 0.0, &mut one);
+    let cx = one[0];
+    matop::trans_op(column(m), alpha, b, &x[n..nm], 0.0, &mut one);
+    let by = one[0];
+    Products { cx, by }
+}
+
+// The two other criteria, where tau is not above eps_zero.
+fn criteria_inf(
+    par: SolverParam,
+    shape: Shape,
+    c: &[f64],
+    a: &[f64],
+    b: &[f64],
+    norms: Norms,
+    x: &[f64],
+    rx: &mut [f64],
+) -> Criteria
+    requires { ⌜ Fits shape (now c) (now a) (now b) ⌝ }
+    requires { ⌜ LikeX shape (now x) ⌝ }
+    requires { ⌜ LikeX shape (now rx) ⌝ }
+    ensures says { λ r. ⌜
+        r
+        ≡ diverging (embedIn shape (now (c .entry)) (now (a .entry)) (now (b .entry))) (par .«eps_zero») norms
+        (now (x .entry)) (now (rx .entry)) .criteria
+        ⌝ }
+    ensures rx_left { λ r. ⌜
+        now (rx .exit)
+        ≡ diverging (embedIn shape (now (c .entry)) (now (a .entry)) (now (b .entry))) (par .«eps_zero») norms
+        (now (x .entry)) (now (rx .entry)) .rx
+        ⌝ }
+{
+    let m = shape.rows.0;
+    let n = shape.cols.0;
+    let mn = m + n;
+    let pri = ray(shape, a, x, &mut rx[0..m]);
+    let dual = dual_ray(shape, a, x, &mut rx[m..mn]);
+    let r = objectives(shape, c, b, -1.0, 0.0, x);
+    Criteria::Inf(
+        ratio(par.eps_zero, pri, norms.c, r.cx),
+        ratio(par.eps_zero, dual, norms.b, r.by),
+    )
+}
+
+// p becomes s + A * x; its norm.
+fn ray(shape: Shape, a: &[f64], x: &[f64], p: &mut [f64]) -> f64
+    requires { ⌜ Sized shape (now a) ⌝ }
+    requires { ⌜ LikeX shape (now x) ⌝ }
+    requires { ⌜ length (now p) ≡ shape .rows .0 ⌝ }
+    ensures p_left { λ r. ⌜ now (p .exit) ≡ rayAt shape (now (a .entry)) (now (x .entry)) ⌝ }
+    ensures is_norm { λ r. ⌜ r ≡ norm (now (p .exit)) ⌝ }
+{
+    let m = shape.rows.0;
+    let n = shape.cols.0;
+    let nm = n + m;
+    let nmm = nm + m;
+    let t = matrix_of(shape);
+    linalg::copy(&x[nm..nmm], p);
+    matop::op(t, 1.0, a, &x[0..n], 1.0, p);
+    linalg::norm(p)
+}
+
+// d becomes A transposed * y; its norm.
+fn dual_ray(shape: Shape, a: &[f64], x: &[f64], d: &mut [f64]) -> f64
+    requires { ⌜ Sized shape (now a) ⌝ }
+    requires { ⌜ LikeX shape (now x) ⌝ }
+    requires { ⌜ length (now d) ≡ shape .cols .0 ⌝ }
+    ensures d_left { λ r. ⌜ now (d .exit) ≡ dualRayAt shape (now (a .entry)) (now (x .entry)) (now (d .entry)) ⌝ }
+    ensures is_norm { λ r. ⌜ r ≡ norm (now (d .exit)) ⌝ }
+{
+    let m = shape.rows.0;
+    let n = shape.cols.0;
+    let nm = n + m;
+    let t = matrix_of(shape);
+    matop::trans_op(t, 1.0, a, &x[n..nm], 0.0, d);
+    linalg::norm(d)
+}
+
+// A norm times another, over a number above eps_zero; infinite if it is not above.
+fn ratio(eps_zero: f64, residual: f64, norm: f64, by: f64) -> f64
+    ensures { λ r. ⌜ r ≡ rules.ratio «eps_zero» residual norm by ⌝ }
+{
+    if by > eps_zero {
+        residual * norm / by
+    } else {
+        1.0 / 0.0
+    }
+}

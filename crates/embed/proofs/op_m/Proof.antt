@@ -1,0 +1,113 @@
+-- `embed::op_m` meets its contract.
+use Prim.Native.Nat.{_+_}
+use native.Mathlib.Omega.{arith}
+use mathlib.Core.Path.{sym, _∙_}
+use borrow.Author.Needs.{needs}
+use Rattle.rules.specs.Helpers.{one}
+use Rattle.rules.specs.Step.{part}
+use Rattle.rules.proofs.Kernels.{op-ruled, add-ruled}
+use Rattle.rules.proofs.Parts.{places, from-start}
+use Rattle.shape.proofs.Fitting.{b-stored, long-x, long-s, long-tau}
+use Rattle.embed.proofs.op_m.Statement.{statement}
+use Rattle.embed.proofs.op_m.Tie as tie
+
+add-nm : tie.Need-add-nm
+add-nm c = search needs
+
+add-nmm : tie.Need-add-nmm
+add-nmm c = search needs
+
+add-nmm1 : tie.Need-add-nmm1
+add-nmm1 c = search needs
+
+matrix-of-requires : tie.Need-matrix-of-requires
+matrix-of-requires c κs = search needs
+
+sub-op : tie.Need-sub-op
+sub-op c = search needs
+
+part-op-start : tie.Need-part-op-start
+part-op-start c = search needs
+
+part-op-end : tie.Need-part-op-end
+part-op-end c = search needs
+
+op-requires : tie.Need-op-requires
+op-requires c κs = search needs
+
+mul-add : tie.Need-mul-add
+mul-add c = search needs
+
+sub-add : tie.Need-sub-add
+sub-add c = search needs
+
+part-add-start : tie.Need-part-add-start
+part-add-start c = search needs
+
+part-add-end : tie.Need-part-add-end
+part-add-end c = search needs
+
+add-requires : tie.Need-add-requires
+add-requires c κs = search needs
+
+column-requires : tie.Need-column-requires
+column-requires c κs = search needs
+
+mul-op : tie.Need-mul-op
+mul-op c = search needs
+
+sub-op-2 : tie.Need-sub-op-2
+sub-op-2 c = search needs
+
+part-op-start-2 : tie.Need-part-op-start-2
+part-op-start-2 c = search needs
+
+part-op-end-2 : tie.Need-part-op-end-2
+part-op-end-2 c = search needs
+
+op-requires-2 : tie.Need-op-requires-2
+op-requires-2 c κs = search needs
+
+same-length : tie.Need-same-length
+same-length c = search needs
+
+returns : tie.Need-returns
+unfolding one
+returns c =
+    let s = c .before .before .before .before .before .before .before .before .before .before .before .before .before .before .before .before .before .before .before .before .before .before in
+    let k = s .args in
+    let n = k .shape .cols .0 in
+    let m = k .shape .rows .0 in
+    let f = s .pre .0 in
+    let like = s .pre .1 .0 in
+    let long = s .pre .1 .1 in
+    let first = op-ruled (part 0 n (k .x .now)) (rw (c .before .before .before .before .before .before .before .before .before .before .before .before .before .before .before .before .matrix-of .ensures, from-start n) at (c .before .before .before .before .before .before .before .before .before .before .before .before .before .op .ensures)) (f .matrix .stored) (long-x like ∙ sym (f .matrix .cols)) (long ∙ sym (f .matrix .rows)) in
+    let second = add-ruled (part (n + m) m (k .x .now)) (rw (places (n + m) m) at (c .before .before .before .before .before .before .before .before .add .ensures)) (omega (arith, long-s like, c .before .before .before .before .before .before .before .before .before .before .before .before .before .op .kept, long)) in
+    let third = op-ruled (part (n + m + m) 1 (k .x .now)) (rw (c .before .before .before .before .before .column .ensures, places (n + m + m) 1) at (c .before .before .op2 .ensures)) (b-stored f) (long-tau like) (omega (arith, c .before .before .before .before .before .before .before .before .add .kept, c .before .before .before .before .before .before .before .before .before .before .before .before .before .op .kept, long)) in
+    third ∙ rw (second, first)
+
+pub op-m-spec : {M : Type 1} → statement M
+op-m-spec =
+    tie.close
+    (tie.spec
+    add-nm
+    add-nmm
+    add-nmm1
+    matrix-of-requires
+    sub-op
+    part-op-start
+    part-op-end
+    op-requires
+    mul-add
+    sub-add
+    part-add-start
+    part-add-end
+    add-requires
+    column-requires
+    mul-op
+    sub-op-2
+    part-op-start-2
+    part-op-end-2
+    op-requires-2
+    same-length
+    returns)

@@ -1,0 +1,88 @@
+-- `embed_trans::trans_y` meets its contract.
+use Prim.Native.Nat.{_+_}
+use native.Mathlib.Omega.{arith}
+use mathlib.Core.Path.{sym, _∙_}
+use borrow.Author.Needs.{needs}
+use Rattle.rules.specs.Helpers.{one}
+use Rattle.rules.specs.Step.{part}
+use Rattle.rules.proofs.Kernels.{op-ruled}
+use Rattle.rules.proofs.Parts.{places, from-start}
+use Rattle.shape.proofs.Fitting.{b-stored, long-n, long-1}
+use Rattle.embed_trans.proofs.trans_y.Statement.{statement}
+use Rattle.embed_trans.proofs.trans_y.Tie as tie
+
+add-nm : tie.Need-add-nm
+add-nm c = search needs
+
+add-nm1 : tie.Need-add-nm1
+add-nm1 c = search needs
+
+matrix-of-requires : tie.Need-matrix-of-requires
+matrix-of-requires c κs = search needs
+
+sub-op : tie.Need-sub-op
+sub-op c = search needs
+
+part-op-start : tie.Need-part-op-start
+part-op-start c = search needs
+
+part-op-end : tie.Need-part-op-end
+part-op-end c = search needs
+
+op-requires : tie.Need-op-requires
+op-requires c κs = search needs
+
+column-requires : tie.Need-column-requires
+column-requires c κs = search needs
+
+mul-op : tie.Need-mul-op
+mul-op c = search needs
+
+sub-op-2 : tie.Need-sub-op-2
+sub-op-2 c = search needs
+
+part-op-start-2 : tie.Need-part-op-start-2
+part-op-start-2 c = search needs
+
+part-op-end-2 : tie.Need-part-op-end-2
+part-op-end-2 c = search needs
+
+op-requires-2 : tie.Need-op-requires-2
+op-requires-2 c κs = search needs
+
+same-length : tie.Need-same-length
+same-length c = search needs
+
+returns : tie.Need-returns
+unfolding one
+returns c =
+    let s = c .before .before .before .before .before .before .before .before .before .before .before .before .before .before .before .before .before in
+    let k = s .args in
+    let n = k .shape .cols .0 in
+    let m = k .shape .rows .0 in
+    let f = s .pre .0 in
+    let like = s .pre .1 .0 in
+    let long = s .pre .1 .1 in
+    let first = op-ruled (part 0 n (k .y .now)) (rw (c .before .before .before .before .before .before .before .before .before .before .before .matrix-of .ensures, from-start n) at (c .before .before .before .before .before .before .before .before .op .ensures)) (f .matrix .stored) (long-n like ∙ sym (f .matrix .cols)) (long ∙ sym (f .matrix .rows)) in
+    let second = op-ruled (part (n + m) 1 (k .y .now)) (rw (c .before .before .before .before .before .column .ensures, places (n + m) 1) at (c .before .before .op2 .ensures)) (b-stored f) (long-1 like) (omega (arith, c .before .before .before .before .before .before .before .before .op .kept, long)) in
+    second ∙ rw first
+
+pub trans-y-spec : {M : Type 1} → statement M
+trans-y-spec =
+    tie.close
+    (tie.spec
+    add-nm
+    add-nm1
+    matrix-of-requires
+    sub-op
+    part-op-start
+    part-op-end
+    op-requires
+    column-requires
+    mul-op
+    sub-op-2
+    part-op-start-2
+    part-op-end-2
+    op-requires-2
+    same-length
+    returns)

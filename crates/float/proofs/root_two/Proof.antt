@@ -1,0 +1,10 @@
+-- `float::root_two` meets its contract.
+use Rattle.rules.proofs.Projections.{root-two-is}
+use Rattle.float.proofs.root_two.Statement.{statement}
+use Rattle.float.proofs.root_two.Tie as tie
+
+returns : tie.Need-returns
+returns c = root-two-is
+
+pub root-two-spec : {M : Type 1} → statement M
+root-two-spec = tie.close (tie.spec returns)

@@ -1,0 +1,5 @@
+pub mod Angles
+pub mod Vectors
+pub mod Matrix
+pub mod Sweeps
+pub mod Outcome

@@ -1,0 +1,2 @@
+pub mod Starting
+pub mod Outcomes

@@ -1,0 +1,50 @@
+// What stands before the first step: the norms, the first x and y, and the two diagonals.
+mod start;
+
+use precond::calc_precond;
+use rules::Norms;
+use rules::Shape;
+use rules::SolverParam;
+use shape::fits_x;
+use shape::fits_y;
+ghost use Rattle.rules.specs.Problem.{problemIn};
+ghost use Rattle.prepare.specs.Prepare.{PreparedOutcome};
+
+// What preparing answers: the norms of b and c, or a plain no.
+pub enum Prepared {
+    Done(Norms),
+    No,
+}
+
+// The norms of b and c, the first x and y, and the two diagonals. Where a length, a size or the cone list doesn't fit, it answers
+// no and changes nothing.
+pub fn prepare(
+    par: SolverParam,
+    shape: Shape,
+    c: &[f64],
+    a: &[f64],
+    b: &[f64],
+    words: &[u16],
+    x: &mut [f64],
+    y: &mut [f64],
+    dp_tau: &mut [f64],
+    dp_sigma: &mut [f64],
+) -> Prepared
+    ensures { λ r. ⌜
+        PreparedOutcome
+        (problemIn shape (now (c .entry)) (now (a .entry)) (now (b .entry)) (now (words .entry)) par)
+        (now (x .entry)) (now (y .entry)) (now («dp_tau» .entry)) (now («dp_sigma» .entry)) r (now (x .exit))
+        (now (y .exit)) (now («dp_tau» .exit)) (now («dp_sigma» .exit))
+        ⌝ }
+{
+    if !fits_x(shape, x) {
+        return Prepared::No;
+    }
+    if !fits_y(shape, y) {
+        return Prepared::No;
+    }
+    if !calc_precond(par, shape, c, a, b, words, dp_tau, dp_sigma) {
+        return Prepared::No;
+    }
+    Prepared::Done(start::start(shape, c, a, b, x, y))
+}

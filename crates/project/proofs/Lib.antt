@@ -1,0 +1,2 @@
+pub mod Cones
+pub mod Ready

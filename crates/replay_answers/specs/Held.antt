@@ -1,0 +1,40 @@
+-- What a run answered and left, held to a record. From a place on the record has: the answer's number, k, q, three words of what the
+-- ending carries, the required places of work and of cone work, and then what these places hold.
+use Prim.Native.Nat.{ℕ, _+_, _/_}
+use mathlib.Core.Bool.{Bool, cond, _&&_}
+use mathlib.Core.List.{List, [], _++_}
+use lib.Dec.{eqb}
+use lib.Ieee.{Float}
+use lib.ListN.{length, take}
+use Rattle.rules.specs.declared.Ending.{Ending}
+use Rattle.rules.specs.declared.Ending.the-variants.{ConeFailure}
+use Rattle.rules.specs.Outcome.{OnPaper, turned-away, ends, onPaper}
+use Rattle.rules.specs.Prepare.{zeros}
+use Rattle.rules.specs.Product.{none, block}
+use Rattle.replay.specs.Records.{wordOf, standFrom, standBefore}
+use Rattle.replay_answers.specs.Numbers.{numberInLists}
+
+-- criteria as three numbers; where there are fewer, +0 after them
+abbrev pub threeOf : List Float → List Float
+threeOf criteria = take 3 (criteria ++ zeros 3)
+
+-- what an answer carries stands there: its criteria, or the number of the block that failed
+abbrev pub carried : List ℕ → ℕ → OnPaper → Bool
+carried bytes at (turned-away i) = standFrom bytes at (threeOf [])
+carried bytes at (ends row criteria none solution) = standFrom bytes at (threeOf criteria)
+carried bytes at (ends row criteria (block b) solution) = eqb (wordOf bytes at) b
+
+-- the ending, k and q are the record's
+unfoldable pub isTold : List ℕ → ℕ → Ending → ℕ → ℕ → Bool
+isTold bytes at e k q = eqb (numberInLists e) (wordOf bytes at) && eqb (wordOf bytes (at + 1)) k && eqb (wordOf bytes (at + 2)) q && carried bytes (at + 3) (onPaper e)
+
+-- The record ends after the last of the places that it says are required; after a cone's failure it leaves them out, since all are +0.
+abbrev pub endsAfter : List ℕ → ℕ → ℕ → ℕ → Bool
+endsAfter bytes at used coneUsed = eqb (length bytes / 8) (cond (eqb (wordOf bytes at) (numberInLists (ConeFailure 0))) (at + 8) (at + 8 + used + coneUsed))
+
+-- both buffers hold in their required places what the record says, and the pattern in all others
+unfoldable pub isLeft : List ℕ → ℕ → ℕ → List Float → List Float → Bool
+isLeft bytes at pattern work cone =
+    let used = wordOf bytes (at + 6) in
+    let coneUsed = wordOf bytes (at + 7) in
+    standBefore bytes (at + 8) work used pattern && standBefore bytes (at + 8 + used) cone coneUsed pattern && endsAfter bytes at used coneUsed

@@ -1,0 +1,3 @@
+// A record's problem, run again and compared.
+pub mod room;
+pub mod runs;

@@ -1,0 +1,6 @@
+// A run's vectors come into work, as its ending says.
+mod parts;
+mod settling;
+
+pub use parts::clear;
+pub use settling::settle;

@@ -1,0 +1,106 @@
+-- A step with its verdict is the rule's whole step, and its outcome.
+use Prim.Native.Nat.{ℕ}
+use native.Mathlib.Omega.{arith}
+use mathlib.Core.Path.{_≡_, refl, sym, _∙_}
+use mathlib.Core.Bool.{Bool, true, false}
+use mathlib.Core.List.{List}
+use lib.Ieee.{Float}
+use Rattle.rules.specs.declared.Ending.the-variants.{ConeFailure}
+use Rattle.rules.specs.declared.Norms.{Norms}
+use Rattle.rules.specs.declared.Product.{Product}
+use Rattle.rules.specs.declared.Product.the-variants.{Done, Failed, No as NoProduct}
+use Rattle.rules.specs.declared.Verdict.{Verdict}
+use Rattle.rules.specs.declared.Verdict.the-variants.{Ends}
+use Rattle.rules.specs.Product.{none, block}
+use Rattle.rules.specs.Problem.{Problem, embed}
+use Rattle.rules.specs.Step.{State, updated}
+use Rattle.rules.specs.Criteria.{judged}
+use Rattle.rules.specs.Run.{wholeStep, verdict}
+use Rattle.project.proofs.Cones.{answer-done, answer-failed, answer-some}
+use Rattle.step.specs.Update.{stateOf, stepped, StepOutcome}
+use Rattle.step.proofs.Updated.{none-left}
+use Rattle.whole_step.specs.declared.StepAnswer.{StepAnswer}
+use Rattle.whole_step.specs.declared.StepAnswer.the-variants.{Said, No}
+use Rattle.whole_step.specs.WholeStep.{leftByStep, WholeStepOutcome}
+
+module _ (p : Problem) (ns : Norms) (s : State) where
+  step-failure : wholeStep p ns s .failure ≡ updated p s .failure
+  unfolding wholeStep
+  step-failure = refl
+
+  step-rotations : wholeStep p ns s .rotations ≡ updated p s .rotations
+  unfolding wholeStep
+  step-rotations = refl
+
+  step-criteria : wholeStep p ns s .criteria ≡ judged (embed p) (p .par .«eps_zero») ns (updated p s .state .x) (updated p s .state .rx) .criteria
+  unfolding wholeStep
+  step-criteria = refl
+
+  step-state : (v : State) → v ≡ updated p s .state → stateOf (v .x) (v .y) (v .dpTau) (v .dpSigma) (judged (embed p) (p .par .«eps_zero») ns (v .x) (v .rx) .rx) (v .tx) (v .cone) ≡ wholeStep p ns s .state
+  unfolding wholeStep
+  step-state v e = rw e
+
+  judged-at : (k : ℕ) (v : State) → v ≡ updated p s .state → updated p s .failure ≡ none → verdict (p .par) k none (judged (embed p) (p .par .«eps_zero») ns (v .x) (v .rx) .criteria) ≡ verdict (p .par) k (wholeStep p ns s .failure) (wholeStep p ns s .criteria)
+  judged-at k v e f = rw (step-failure, step-criteria, e, f)
+
+  failed-at : (k b : ℕ) → updated p s .failure ≡ block b → Ends (ConeFailure b) ≡ verdict (p .par) k (wholeStep p ns s .failure) (wholeStep p ns s .criteria)
+  unfolding verdict
+  failed-at k b f = rw (step-failure, f)
+
+  none-failed : updated p s .failure ≡ none → leftByStep p ns s ≡ wholeStep p ns s .state
+  unfolding leftByStep
+  none-failed f = rw (step-failure, f)
+
+  one-failed : (b : ℕ) → updated p s .failure ≡ block b → leftByStep p ns s ≡ stepped p s
+  unfolding leftByStep
+  one-failed b f = rw (step-failure, f)
+
+  module _ (k : ℕ) (v : State) {answer : Product} (u : StepOutcome true p s answer v) where
+    pub step-done : (q : ℕ) → answer ≡ Done q → (said : Verdict) → said ≡ verdict (p .par) k none (judged (embed p) (p .par .«eps_zero») ns (v .x) (v .rx) .criteria) → (rx' : List Float) → rx' ≡ judged (embed p) (p .par .«eps_zero») ns (v .x) (v .rx) .rx
+        → WholeStepOutcome true p ns k s (Said said q) (stateOf (v .x) (v .y) (v .dpTau) (v .dpSigma) rx' (v .tx) (v .cone))
+    step-done q is said h rx' e =
+        let f = answer-done (updated p s .rotations) (updated p s .failure) q (sym is ∙ u .answered) in
+        let same : v ≡ updated p s .state = u .left ∙ none-left p s (f .0) in
+        let says = h ∙ judged-at k v same (f .0) in
+        let counts = sym (f .1) ∙ sym step-rotations in
+        record { answered = λ i. Said (says i) (counts i); left = rw e (step-state v same) ∙ sym (none-failed (f .0)) }
+
+    pub step-failed : (b q : ℕ) → answer ≡ Failed b q → WholeStepOutcome true p ns k s (Said (Ends (ConeFailure b)) q) v
+    step-failed b q is =
+        let f = answer-failed (updated p s .rotations) (updated p s .failure) b q (sym is ∙ u .answered) in
+        let counts = sym (f .1) ∙ sym step-rotations in
+        record { answered = λ i. Said (failed-at k b (f .0) i) (counts i); left = u .left ∙ sym (one-failed b (f .0)) }
+
+-- ---- a step that answers anything but no has sizes that fit
+
+pub some-fits : {fits : Bool} {p : Problem} {s : State} {answer : Product} {v : State} → StepOutcome fits p s answer v → (answer ≡ NoProduct → ⊥) → fits ≡ true
+some-fits {fits} o h = go fits o h
+  where
+    go : (t : Bool) {p : Problem} {s : State} {answer : Product} {v : State} → StepOutcome t p s answer v → (answer ≡ NoProduct → ⊥) → t ≡ true
+    go true o h = refl
+    go false o h = absurd (h (o .answered))
+
+pub done-is-some : {q : ℕ} → Done q ≡ NoProduct → ⊥
+done-is-some e = let z : _≡_ {A = ℕ} 0 1 = cc in omega arith
+
+pub failed-is-some : {b q : ℕ} → Failed b q ≡ NoProduct → ⊥
+failed-is-some e = let z : _≡_ {A = ℕ} 0 1 = cc in omega arith
+
+pub no-fits-not : {fits : Bool} {p : Problem} {s : State} {answer : Product} {v : State} → StepOutcome fits p s answer v → answer ≡ NoProduct → fits ≡ false
+no-fits-not {fits} o is = go fits o is
+  where
+    go : (t : Bool) {p : Problem} {s : State} {answer : Product} {v : State} → StepOutcome t p s answer v → answer ≡ NoProduct → t ≡ false
+    go true {p} {s} o is = absurd (answer-some (updated p s .rotations) (updated p s .failure) (sym is ∙ o .answered))
+    go false o is = refl
+
+-- ---- the outcome
+
+module _ {fits : Bool} {p : Problem} {ns : Norms} {k : ℕ} {s : State} where
+  pub whole-refused : {v : State} → fits ≡ false → v ≡ s → WholeStepOutcome fits p ns k s No v
+  whole-refused e same = record { answered = rw e; left = rw e same }
+
+  pub whole-taken : {answer : StepAnswer} {v : State} → fits ≡ true → WholeStepOutcome true p ns k s answer v → WholeStepOutcome fits p ns k s answer v
+  whole-taken e o = record { answered = rw e (o .answered); left = rw e (o .left) }
+
+  pub whole-steps-coincide : {a b : StepAnswer} {v w : State} → WholeStepOutcome fits p ns k s a v → WholeStepOutcome fits p ns k s b w → (a ≡ b) × (v ≡ w)
+  whole-steps-coincide o q = (o .answered ∙ sym (q .answered), o .left ∙ sym (q .left))

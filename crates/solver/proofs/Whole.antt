@@ -1,5 +1,6 @@
 -- A run that starts in vectors at zero and a cone work that was cleared is the rule's run.
 use Prim.Native.Nat.{ℕ}
+use native.Mathlib.Omega.{arith}
 use mathlib.Core.Path.{_≡_, refl, sym, _∙_}
 use mathlib.Core.Bool.{Bool, true, false, cond}
 use mathlib.Core.List.{List, _++_}
@@ -10,21 +11,27 @@ use Rattle.rules.specs.declared.Answer.{Answer}
 use Rattle.rules.specs.Arithmetic.{+0}
 use Rattle.rules.specs.Blocks.{hasBadWord, blocksOf, totalPlaces, isBadCone}
 use Rattle.rules.specs.Product.{coneWork}
-use Rattle.rules.specs.Problem.{Problem, blocks, lengthX, lengthY, workLength}
+use Rattle.rules.specs.Problem.{Problem, embed, blocks, lengthX, lengthY, workLength}
 use Rattle.rules.specs.Step.{State}
 use Rattle.rules.specs.declared.Norms.{Norms}
 use Rattle.rules.specs.declared.Shape.{Shape}
-use Rattle.rules.specs.Prepare.{prepared, preparedNorms, zeros}
+use Rattle.rules.specs.Prepare.{norms, prepared, preparedNorms, zeros}
 use Rattle.rules.specs.Run.{run, runFrom, allowance, laidOut, isConeFailure}
 use Rattle.rules.proofs.Lengths.{prepared-sized}
 use Rattle.shape.specs.Fitting.{LikeX, LikeY}
 use Rattle.rules.specs.Problem.{shapeOf}
 use Rattle.precond.specs.Precond.{Covers}
-use Rattle.step.specs.Update.{stateOf}
+use Rattle.prepare.specs.declared.Prepared.{Prepared}
+use Rattle.prepare.specs.declared.Prepared.the-variants.{Done, No}
+use Rattle.prepare.proofs.Outcomes.{PreparedBy}
+use Rattle.step.specs.Update.{stateOf, StepReady}
+use Rattle.iterate.specs.declared.Iterated.{Iterated}
+use Rattle.iterate.specs.declared.Iterated.the-variants.{Ran, No as NoRun}
+use Rattle.iterate.specs.Iterate.{allSteps, answerOf}
+use Rattle.iterate.proofs.Outcomes.{RanBy}
 use Rattle.settle.specs.Settle.{Settled}
 use Rattle.settle.proofs.Parted.{final-finished}
-use Rattle.solver.specs.Solve.{Ready, PreparedAs, Lent, AtZero, RanIn}
-use Rattle.solver.specs.Run.{AsEnded, Iterated}
+use Rattle.solver.specs.Solve.{Ready, Lent, AtZero, RanIn}
 
 good-list : (words : List ℕ) (m : ℕ) → hasBadWord words ≡ false → totalPlaces (blocksOf words) ≡ m → isBadCone words m ≡ false
 unfolding isBadCone
@@ -66,14 +73,11 @@ whole-is : (p : Problem) → run p ≡ runFrom (allowance (p .par)) p (preparedN
 unfolding run
 whole-is p = refl
 
-prepared-is : {p : Problem} {x y dpTau dpSigma rx tx : List Float} {ns : Norms} {x' y' dpTau' dpSigma' : List Float} → AtZero (shapeOf p) x y dpTau dpSigma rx tx → PreparedAs p x y dpTau ns x' y' dpTau' dpSigma' → (cone : List Float) → cone ≡ zeros (coneWork (blocks p)) → stateOf x' y' dpTau' dpSigma' rx tx cone ≡ prepared p
+prepared-is : {p : Problem} {x y dpTau dpSigma rx tx : List Float} {answer : Prepared} {x' y' dpTau' dpSigma' : List Float} → AtZero (shapeOf p) x y dpTau dpSigma rx tx → PreparedBy p x y dpTau answer x' y' dpTau' dpSigma' → (cone : List Float) → cone ≡ zeros (coneWork (blocks p)) → stateOf x' y' dpTau' dpSigma' rx tx cone ≡ prepared p
 unfolding prepared
 prepared-is z q cone e = rw (q .x-is, q .y-is, q .tau-is, q .sigma-is, z .x-zero, z .y-zero, z .tau-zero, z .rx-zero, z .tx-zero, e)
 
-module _ {p : Problem} {x y dpTau dpSigma rx tx : List Float} {ns : Norms} {x' y' dpTau' dpSigma' : List Float} (z : AtZero (shapeOf p) x y dpTau dpSigma rx tx) (q : PreparedAs p x y dpTau ns x' y' dpTau' dpSigma') where
-  norms-start : ns ≡ preparedNorms p
-  norms-start = q .norms-are ∙ rw (z .x-zero)
-
+module _ {p : Problem} {x y dpTau dpSigma rx tx : List Float} {answer : Prepared} {x' y' dpTau' dpSigma' : List Float} (z : AtZero (shapeOf p) x y dpTau dpSigma rx tx) (q : PreparedBy p x y dpTau answer x' y' dpTau' dpSigma') where
   state-start : stateOf x' y' dpTau' dpSigma' rx tx (zeros (coneWork (blocks p))) ≡ prepared p
   state-start = prepared-is z q (zeros (coneWork (blocks p))) refl
 
@@ -89,30 +93,59 @@ module _ {p : Problem} {x y dpTau dpSigma rx tx : List Float} {ns : Norms} {x' y
   pub prepared-sigma : LikeY (shapeOf p) dpSigma'
   prepared-sigma = record { is = (rw (← state-start) at (prepared-sized p)) .dpSigma }
 
+  pub ready-to-step : {work cone cone' : List Float} → Lent p work cone → cone' ≡ zeros (length cone) → StepReady (p .par) (shapeOf p) (p .c) (p .a) (p .b) (p .words) (stateOf x' y' dpTau' dpSigma' rx tx cone')
+  ready-to-step l e =
+      let r = l .ready in
+      record {
+        operators = r .operators;
+        cones = record { within = r .operators .m-within; readable = r .readable; places = r .places; sweeps = r .sweeps; enough = omega (arith, cleared-long l e) };
+        x-like = prepared-x;
+        y-like = prepared-y;
+        tau-like = prepared-tau;
+        sigma-like = prepared-sigma;
+        rx-like = zero-rx z;
+        tx-like = zero-tx z;
+      }
+
   -- all steps from there are the whole run
-  pub whole-run : {work cone cone' : List Float} {answer : Answer} {to : State} → Lent p work cone → cone' ≡ zeros (length cone) → Iterated p ns (stateOf x' y' dpTau' dpSigma' rx tx cone') answer to → AsEnded (run p) answer to
-  whole-run {work} {cone} {cone'} {answer} {to} l e i =
+  pub whole-run : {work cone cone' : List Float} {ns : Norms} {ran : Iterated} {to : State} → Lent p work cone → cone' ≡ zeros (length cone) → ns ≡ norms (embed p) x → RanBy (allSteps p ns (stateOf x' y' dpTau' dpSigma' rx tx cone')) ran to → RanBy (run p) ran to
+  whole-run {cone' = cone'} {ns} l e n r =
       let from : stateOf x' y' dpTau' dpSigma' rx tx cone' ≡ prepared p = prepared-is z q cone' (e ∙ rw (l .cone-long)) in
-      let all : runFrom (allowance (p .par)) p ns 1 0 (stateOf x' y' dpTau' dpSigma' rx tx cone') ≡ run p = rw (from, norms-start) (sym (whole-is p)) in
-      rw all at i
+      let start : ns ≡ preparedNorms p = n ∙ rw (z .x-zero) in
+      let all : allSteps p ns (stateOf x' y' dpTau' dpSigma' rx tx cone') ≡ run p = rw (from, start) (sym (whole-is p)) in
+      rw all at r
 
 -- ---- after the last step
 
-module _ {p : Problem} {answer : Answer} {x y dpTau dpSigma rx tx cone work x' work' cone' : List Float} (i : AsEnded (run p) answer (stateOf x y dpTau dpSigma rx tx cone)) (n : length cone ≡ coneWork (blocks p)) (b : Settled (p .m) (p .n) x y dpTau dpSigma rx tx work (answer .ending) cone x' work' cone') where
+module _ {p : Problem} {ran : Iterated} {answer : Answer} {x y dpTau dpSigma rx tx cone work x' work' cone' : List Float} (i : RanBy (run p) ran (stateOf x y dpTau dpSigma rx tx cone)) (same : answer ≡ answerOf (run p)) (n : length cone ≡ coneWork (blocks p)) (b : Settled (p .m) (p .n) x y dpTau dpSigma rx tx work (answer .ending) cone x' work' cone') where
   pub ran-in : RanIn p work answer work' cone'
   ran-in = go (isConeFailure (run p .ending)) refl
     where
-      answered-is : answer ≡ record { ending = run p .ending; steps = run p .steps; rotations = run p .rotations }
-      answered-is = λ j. record { ending = i .ending-is j; steps = i .steps-are j; rotations = i .rotations-are j }
+      ending-is : answer .ending ≡ run p .ending
+      ending-is = rw same
 
       w' : work' ≡ cond (isConeFailure (run p .ending)) (zeros (workLength (p .m) (p .n))) (laidOut p (run p .ending) (stateOf x y dpTau dpSigma rx tx cone)) ++ drop (workLength (p .m) (p .n)) work
-      w' = rw (final-finished p (run p .ending) x) (rw (i .ending-is) at (b .work-is))
+      w' = rw (final-finished p (run p .ending) x) (rw ending-is at (b .work-is))
 
       k' : cone' ≡ cond (isConeFailure (run p .ending)) (zeros (length cone)) cone
-      k' = rw (i .ending-is) at (b .cone-is)
+      k' = rw ending-is at (b .cone-is)
 
       go : (t : Bool) → isConeFailure (run p .ending) ≡ t → RanIn p work answer work' cone'
-      go true e = record { answered = answered-is; work-is = rw e (rw e at w'); cone-is = rw e (rw (e, n) at k') }
+      go true e = record { answered = same; work-is = rw e (rw e at w'); cone-is = rw e (rw (e, n) at k') }
       go false e =
           let s : stateOf x y dpTau dpSigma rx tx cone ≡ run p .state = i .state-is e in
-          record { answered = answered-is; work-is = rw (e, ← s) (rw e at w'); cone-is = rw (e, ← s) (rw e at k') }
+          record { answered = same; work-is = rw (e, ← s) (rw e at w'); cone-is = rw (e, ← s) (rw e at k') }
+
+-- ---- what an answer holds
+
+pub done-once : {v w : Norms} → Done v ≡ Done w → v ≡ w
+done-once e = cc
+
+pub none-done : {v : Norms} → No ≡ Done v → ⊥
+none-done e = let z : _≡_ {A = ℕ} 0 1 = cc in omega arith
+
+pub ran-once : {v w : Answer} → Ran v ≡ Ran w → v ≡ w
+ran-once e = cc
+
+pub none-ran : {v : Answer} → NoRun ≡ Ran v → ⊥
+none-ran e = let z : _≡_ {A = ℕ} 0 1 = cc in omega arith

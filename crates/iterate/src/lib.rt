@@ -1,20 +1,25 @@
-// The run: a loop over steps, up to the one that ends.
+// The steps of a run, up to the one that ends it.
 use rules::Answer;
-use rules::Ending;
+use rules::MOST_STEPS;
 use rules::Norms;
 use rules::Shape;
 use rules::SolverParam;
 use rules::Verdict;
 use whole_step::StepAnswer;
 use whole_step::whole_step;
-ghost use Prim.Native.Nat.{_≤_};
-ghost use Rattle.rules.specs.Limits.{mostSteps};
 ghost use Rattle.rules.specs.Problem.{problemIn};
-ghost use Rattle.step.specs.Update.{stateOf, StepReady};
-ghost use Rattle.solver.specs.Run.{Iterated};
+ghost use Rattle.step.specs.Update.{stateOf};
+ghost use Rattle.iterate.specs.Iterate.{runFits, IterateOutcome};
 
-// The steps from the first on.
-pub(crate) fn iterate(
+// What the steps of a run answer: how it ended, with their number and their rotations, or a plain no.
+pub enum Iterated {
+    Ran(Answer),
+    No,
+}
+
+// The steps of a run, from the first on. Where a length, a size, the cone list, the sweep limit or the allowance doesn't fit,
+// it answers no and changes nothing.
+pub fn iterate(
     par: SolverParam,
     shape: Shape,
     c: &[f64],
@@ -29,22 +34,21 @@ pub(crate) fn iterate(
     rx: &mut [f64],
     tx: &mut [f64],
     cone_work: &mut [f64],
-) -> Answer
-    requires { ⌜
-        StepReady par shape (now c) (now a) (now b) (now words)
-        (stateOf (now x) (now y) (now «dp_tau») (now «dp_sigma») (now rx) (now tx) (now «cone_work»))
-        ⌝ }
-    requires { ⌜ par .«max_iter» ≤ mostSteps ⌝ }
+) -> Iterated
     ensures { λ r. ⌜
-        Iterated (problemIn shape (now (c .entry)) (now (a .entry)) (now (b .entry)) (now (words .entry)) par)
-        norms
-        (stateOf (now (x .entry)) (now (y .entry)) (now («dp_tau» .entry)) (now («dp_sigma» .entry))
-        (now (rx .entry)) (now (tx .entry)) (now («cone_work» .entry)))
+        (let s = stateOf (now (x .entry)) (now (y .entry)) (now («dp_tau» .entry)) (now («dp_sigma» .entry))
+        (now (rx .entry)) (now (tx .entry)) (now («cone_work» .entry)) in
+        IterateOutcome
+        (runFits par shape (now (c .entry)) (now (a .entry)) (now (b .entry)) (now (words .entry)) s)
+        (problemIn shape (now (c .entry)) (now (a .entry)) (now (b .entry)) (now (words .entry)) par) norms s
         r
         (stateOf (now (x .exit)) (now (y .exit)) (now («dp_tau» .entry)) (now («dp_sigma» .entry))
-        (now (rx .exit)) (now (tx .exit)) (now («cone_work» .exit)))
+        (now (rx .exit)) (now (tx .exit)) (now («cone_work» .exit))))
         ⌝ }
 {
+    if par.max_iter > MOST_STEPS {
+        return Iterated::No;
+    }
     let mut k: u64 = 1;
     let mut q: u64 = 0;
     loop {
@@ -70,25 +74,19 @@ pub(crate) fn iterate(
                 q = q + made;
                 match v {
                     Verdict::Ends(e) => {
-                        return Answer {
+                        return Iterated::Ran(Answer {
                             ending: e,
                             steps: k,
                             rotations: q,
-                        };
+                        });
                     }
                     Verdict::GoesOn => {
                         k = k + 1;
                     }
                 }
             }
-            // the sizes always fit here
-            StepAnswer::No => {
-                return Answer {
-                    ending: Ending::ConeFailure(0),
-                    steps: k,
-                    rotations: q,
-                };
-            }
+            // only at the first step
+            StepAnswer::No => return Iterated::No,
         }
     }
 }

@@ -1,0 +1,133 @@
+-- `iterate::iterate` meets its contract.
+use Prim.Native.Nat.{_-_}
+use native.Mathlib.Omega.{arith}
+use mathlib.Core.Path.{refl}
+use borrow.Author.Needs.{needs}
+use Rattle.rules.specs.Run.{allowance}
+use Rattle.step.specs.Update.{stateOf}
+use Rattle.iterate.proofs.Steps.{said-by, nothing-said}
+use Rattle.iterate.proofs.Runs.{running-counts, running-before, running-end}
+use Rattle.iterate.proofs.Outcomes.{Going, going-start, cones-now, going-more, going-end, going-nowhere, too-long}
+use Rattle.iterate.proofs.iterate.Statement.{statement}
+use Rattle.iterate.proofs.iterate.Tie as tie
+
+abbrev Inv-loop : tie.InvT-loop
+Inv-loop par shape c a b words norms x₀ y₀ dp-tau dp-sigma rx₀ tx₀ cone-work₀ k₀ q₀ x y rx tx cone-work k q =
+    Going par shape c a b words norms (stateOf x₀ y₀ dp-tau dp-sigma rx₀ tx₀ cone-work₀) k q (stateOf x y dp-tau dp-sigma rx tx cone-work)
+
+abbrev μ-loop : tie.MeasureT-loop
+μ-loop par shape c a b words norms x₀ y₀ dp-tau dp-sigma rx₀ tx₀ cone-work₀ k₀ q₀ x y rx tx cone-work k q = allowance par - k
+
+returns : tie.Need-returns Inv-loop μ-loop
+returns c = too-long _ _ _ _ _ _ _ _ (c .if1 .taken)
+
+loop-holds : tie.Need-loop-holds Inv-loop μ-loop
+loop-holds c = going-start _ _ _ _ _ _ _ _
+
+whole-step-requires : tie.Need-whole-step-requires Inv-loop μ-loop
+whole-step-requires c κs = search needs
+
+enum-known-t : tie.Need-enum-known-t Inv-loop μ-loop
+enum-known-t c = search needs
+
+add-q : tie.Need-add-q Inv-loop μ-loop
+add-q c =
+    let g = c .before .before .before .before .before .before .before .before .before .before .before .before .before .before .before .before .before .before .before .loop .inv in
+    let w = said-by (c .before .before .before .before .before .before .before .before .before .before .before .before .before .whole-step .ensures) (c .before .t .given .1) in
+    omega (arith, running-counts (g .running) (w .1) (cones-now g (w .0)), g .running .within, g .running .most, c .before .before .before .before .before .before .before .before .before .before .before .before .before .before .before .before .before .before .before .before .if1 .left)
+
+enum-known-v : tie.Need-enum-known-v Inv-loop μ-loop
+enum-known-v c = search needs
+
+same-length : tie.Need-same-length Inv-loop μ-loop
+same-length c = omega (arith, c .before .before .before .before .before .before .before .before .before .before .before .before .before .before .before .before .before .before .before .before .before .before .loop .inv .kept .x-kept, c .before .before .before .before .before .before .before .before .before .before .before .before .before .before .before .before .whole-step .kept)
+
+same-length-2 : tie.Need-same-length-2 Inv-loop μ-loop
+same-length-2 c = omega (arith, c .before .before .before .before .before .before .before .before .before .before .before .before .before .before .before .before .before .before .before .before .before .before .loop .inv .kept .y-kept, c .before .before .before .before .before .before .before .before .before .before .before .before .before .before .before .before .whole-step .kept)
+
+same-length-3 : tie.Need-same-length-3 Inv-loop μ-loop
+same-length-3 c = omega (arith, c .before .before .before .before .before .before .before .before .before .before .before .before .before .before .before .before .before .before .before .before .before .before .loop .inv .kept .rx-kept, c .before .before .before .before .before .before .before .before .before .before .before .before .before .before .before .before .whole-step .kept)
+
+same-length-4 : tie.Need-same-length-4 Inv-loop μ-loop
+same-length-4 c = omega (arith, c .before .before .before .before .before .before .before .before .before .before .before .before .before .before .before .before .before .before .before .before .before .before .loop .inv .kept .tx-kept, c .before .before .before .before .before .before .before .before .before .before .before .before .before .before .before .before .whole-step .kept)
+
+same-length-5 : tie.Need-same-length-5 Inv-loop μ-loop
+same-length-5 c = omega (arith, c .before .before .before .before .before .before .before .before .before .before .before .before .before .before .before .before .before .before .before .before .before .before .loop .inv .kept .cone-kept, c .before .before .before .before .before .before .before .before .before .before .before .before .before .before .before .before .whole-step .kept)
+
+returns-2 : tie.Need-returns-2 Inv-loop μ-loop
+returns-2 c =
+    let g = c .before .before .before .before .before .before .before .before .before .before .before .before .before .before .before .before .before .before .before .before .before .before .loop .inv in
+    let w = said-by (c .before .before .before .before .before .before .before .before .before .before .before .before .before .before .before .before .whole-step .ensures) (c .before .before .before .before .t .given .1) in
+    going-end g (c .before .before .before .before .before .before .before .before .before .before .before .before .before .before .before .before .before .before .before .before .before .before .before .if1 .left) (w .0) (running-end (g .running) (w .1) _ (c .before .v .given .1))
+
+enum-told : tie.Need-enum-told Inv-loop μ-loop
+enum-told c = search needs
+
+add-k : tie.Need-add-k Inv-loop μ-loop
+add-k c = omega (arith, c .before .before .before .before .before .before .before .before .before .before .before .before .before .before .before .before .before .before .before .before .before .loop .inv .running .most, c .before .before .before .before .before .before .before .before .before .before .before .before .before .before .before .before .before .before .before .before .before .before .if1 .left)
+
+loop-less : tie.Need-loop-less Inv-loop μ-loop
+loop-less c =
+    let g = c .before .before .before .before .before .before .before .before .before .before .before .before .before .before .before .before .before .before .before .before .before .loop .inv in
+    let w = said-by (c .before .before .before .before .before .before .before .before .before .before .before .before .before .before .before .whole-step .ensures) (c .before .before .before .t .given .1) in
+    omega (arith, g .running .most, running-before (g .running) (w .1) (c .enum-told .given .1))
+
+loop-again : tie.Need-loop-again Inv-loop μ-loop
+loop-again c =
+    let t = c .before .before .before .before .before .before .before .before .before .before .before .before .before .before .before .whole-step in
+    let w = said-by (t .ensures) (c .before .before .before .t .given .1) in
+    going-more (c .before .before .before .before .before .before .before .before .before .before .before .before .before .before .before .before .before .before .before .before .before .loop .inv) (w .0) (w .1) (c .enum-told .given .1)
+    (record { x-kept = omega (arith, t .kept); y-kept = omega (arith, t .kept); tau-kept = refl; sigma-kept = refl; rx-kept = omega (arith, t .kept); tx-kept = omega (arith, t .kept); cone-kept = omega (arith, t .kept) })
+
+enum-told-2 : tie.Need-enum-told-2 Inv-loop μ-loop
+enum-told-2 c = search needs
+
+same-length-6 : tie.Need-same-length-6 Inv-loop μ-loop
+same-length-6 c = omega (arith, c .before .before .before .before .before .before .before .before .before .before .before .before .before .before .before .before .before .before .loop .inv .kept .x-kept, c .before .before .before .before .before .before .before .before .before .before .before .before .whole-step .kept)
+
+same-length-7 : tie.Need-same-length-7 Inv-loop μ-loop
+same-length-7 c = omega (arith, c .before .before .before .before .before .before .before .before .before .before .before .before .before .before .before .before .before .before .loop .inv .kept .y-kept, c .before .before .before .before .before .before .before .before .before .before .before .before .whole-step .kept)
+
+same-length-8 : tie.Need-same-length-8 Inv-loop μ-loop
+same-length-8 c = omega (arith, c .before .before .before .before .before .before .before .before .before .before .before .before .before .before .before .before .before .before .loop .inv .kept .rx-kept, c .before .before .before .before .before .before .before .before .before .before .before .before .whole-step .kept)
+
+same-length-9 : tie.Need-same-length-9 Inv-loop μ-loop
+same-length-9 c = omega (arith, c .before .before .before .before .before .before .before .before .before .before .before .before .before .before .before .before .before .before .loop .inv .kept .tx-kept, c .before .before .before .before .before .before .before .before .before .before .before .before .whole-step .kept)
+
+same-length-10 : tie.Need-same-length-10 Inv-loop μ-loop
+same-length-10 c = omega (arith, c .before .before .before .before .before .before .before .before .before .before .before .before .before .before .before .before .before .before .loop .inv .kept .cone-kept, c .before .before .before .before .before .before .before .before .before .before .before .before .whole-step .kept)
+
+returns-3 : tie.Need-returns-3 Inv-loop μ-loop
+returns-3 c =
+    let w = nothing-said (c .before .before .before .before .before .before .before .before .before .before .before .before .whole-step .ensures) (c .enum-told2 .given .1) in
+    going-nowhere (c .before .before .before .before .before .before .before .before .before .before .before .before .before .before .before .before .before .before .loop .inv) (c .before .before .before .before .before .before .before .before .before .before .before .before .before .before .before .before .before .before .before .if1 .left) (w .0) (w .1)
+
+pub iterate-spec : {M : Type 1} → statement M
+iterate-spec =
+    tie.close
+    (tie.spec
+    Inv-loop
+    μ-loop
+    returns
+    loop-holds
+    whole-step-requires
+    enum-known-t
+    add-q
+    enum-known-v
+    same-length
+    same-length-2
+    same-length-3
+    same-length-4
+    same-length-5
+    returns-2
+    enum-told
+    add-k
+    loop-less
+    loop-again
+    enum-told-2
+    same-length-6
+    same-length-7
+    same-length-8
+    same-length-9
+    same-length-10
+    returns-3)

@@ -1,9 +1,9 @@
 // The projection of one block, onto the cone of its kind.
+use block::block_fits;
 use float::root_two;
 use rules::Cone;
 use rules::Projection;
 use rules::SolverParam;
-use words::block_fits;
 ghost use Prim.Native.Nat.{_<_};
 ghost use mathlib.Core.Path.{_≡_};
 ghost use mathlib.Core.Bool.{true};

@@ -1,9 +1,9 @@
 // Jacobi's method, jacobi_eig of floatgeneric.rs. The matrix is a packed upper triangle, the vectors are n columns of n.
+use block::sweeps_fit;
 use matrix::triangle;
 use rules::LIMIT;
 use rules::Projection;
 use rules::SolverParam;
-use words::sweeps_fit;
 ghost use Prim.Native.Nat.{_+_, _-_, _*_, _≤_, _<_};
 ghost use mathlib.Core.Path.{_≡_};
 ghost use lib.ListN.{length};

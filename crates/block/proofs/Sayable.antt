@@ -5,7 +5,7 @@ use borrow.Author.Tests.{le-leb}
 use Rattle.rules.specs.declared.Cone.{Cone}
 use Rattle.rules.specs.Blocks.{places}
 use Rattle.rules.specs.Projections.{blockWork}
-use Rattle.words.specs.Sayable.{sayablePlaces, sayableWork}
+use Rattle.block.specs.Sayable.{sayablePlaces, sayableWork}
 
 pub sayable-places : (cone : Cone) → places cone ≤ 8191 → sayablePlaces cone ≡ places cone
 unfolding sayablePlaces

@@ -1,4 +1,4 @@
--- `words::has_at_most` meets its contract.
+-- `block::has_at_most` meets its contract.
 use native.Mathlib.Omega.{arith}
 use mathlib.Core.Path.{_≡_, ap, _∙_}
 use mathlib.Core.Bool.{Bool}
@@ -6,8 +6,8 @@ use Prim.Native.Nat.{ℕ}
 use lib.Dec.{leb}
 use Rattle.matrix.proofs.Counted.{counted-within}
 use borrow.Author.Needs.{needs}
-use Rattle.words.proofs.has_at_most.Statement.{statement}
-use Rattle.words.proofs.has_at_most.Tie as tie
+use Rattle.block.proofs.has_at_most.Statement.{statement}
+use Rattle.block.proofs.has_at_most.Tie as tie
 
 enum-known-cone : tie.Need-enum-known-cone
 enum-known-cone c = search needs

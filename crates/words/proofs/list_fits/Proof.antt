@@ -1,10 +1,10 @@
--- `product::list_fits` meets its contract.
+-- `words::list_fits` meets its contract.
 use borrow.Author.Needs.{needs}
 use mathlib.Core.Path.{_≡_, sym, _∙_}
 use Rattle.rules.specs.Blocks.{isBadCone}
 use mathlib.Core.Bool.{true, false}
-use Rattle.product.proofs.list_fits.Statement.{statement}
-use Rattle.product.proofs.list_fits.Tie as tie
+use Rattle.words.proofs.list_fits.Statement.{statement}
+use Rattle.words.proofs.list_fits.Tie as tie
 
 is-bad-cone-requires : tie.Need-is-bad-cone-requires
 is-bad-cone-requires c κs = search needs

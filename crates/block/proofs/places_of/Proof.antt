@@ -1,4 +1,4 @@
--- `words::places_of` meets its contract.
+-- `block::places_of` meets its contract.
 use native.Mathlib.Omega.{arith}
 use Prim.Native.Nat.{_≤_}
 use mathlib.Core.Path.{_≡_, sym, _∙_}
@@ -8,11 +8,11 @@ use borrow.Author.Tests.{not-true, not-false, leb-true}
 use Rattle.rules.specs.Blocks.{places}
 use Rattle.rules.proofs.Blocks.{order-in-triangle}
 use Rattle.matrix.proofs.Counted.{counted-is}
-use Rattle.words.specs.Sayable.{sayablePlaces}
-use Rattle.words.proofs.Sayable.{sayable-places}
+use Rattle.block.specs.Sayable.{sayablePlaces}
+use Rattle.block.proofs.Sayable.{sayable-places}
 use borrow.Author.Needs.{needs}
-use Rattle.words.proofs.places_of.Statement.{statement}
-use Rattle.words.proofs.places_of.Tie as tie
+use Rattle.block.proofs.places_of.Statement.{statement}
+use Rattle.block.proofs.places_of.Tie as tie
 
 most : (c : tie.Else1) → places (c .before .before .args .cone) ≤ 8191
 most c = leb-true _ _ (sym (c .before .is-sayable .ensures) ∙ not-false _ (c .if1 .left))

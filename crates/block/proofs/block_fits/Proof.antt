@@ -1,4 +1,4 @@
--- `words::block_fits` meets its contract.
+-- `block::block_fits` meets its contract.
 use borrow.Author.Needs.{needs}
 use native.Mathlib.Omega.{arith}
 use Prim.Native.Nat.{_≤_}
@@ -10,9 +10,9 @@ use Rattle.rules.specs.Limits.{limit}
 use mathlib.Core.Bool.{true, false}
 use Rattle.rules.specs.Projections.{blockWork}
 use lib.Dec.{eqb}
-use Rattle.words.proofs.Sayable.{sayable-places, sayable-work}
-use Rattle.words.proofs.block_fits.Statement.{statement}
-use Rattle.words.proofs.block_fits.Tie as tie
+use Rattle.block.proofs.Sayable.{sayable-places, sayable-work}
+use Rattle.block.proofs.block_fits.Statement.{statement}
+use Rattle.block.proofs.block_fits.Tie as tie
 
 is-within-requires : tie.Need-is-within-requires
 is-within-requires c κs = search needs

@@ -1,4 +1,4 @@
--- `product::product_fits` meets its contract.
+-- `words::product_fits` meets its contract.
 use borrow.Author.Needs.{needs}
 use native.Mathlib.Omega.{arith}
 use mathlib.Core.Path.{_≡_, sym, _∙_}
@@ -8,8 +8,8 @@ use Rattle.rules.specs.Blocks.{blocksOf}
 use borrow.Author.Tests.{not-true, not-false, le-leb, lt-leb}
 use lib.Dec.{leb}
 use mathlib.Core.Bool.{true, false}
-use Rattle.product.proofs.product_fits.Statement.{statement}
-use Rattle.product.proofs.product_fits.Tie as tie
+use Rattle.words.proofs.product_fits.Statement.{statement}
+use Rattle.words.proofs.product_fits.Tie as tie
 
 list-fits-requires : tie.Need-list-fits-requires
 list-fits-requires c κs = search needs

@@ -1,4 +1,4 @@
--- `words::block_work` meets its contract: a square has at most twice as many places as a triangle.
+-- `block::block_work` meets its contract: a square has at most twice as many places as a triangle.
 use borrow.Author.Needs.{needs}
 use native.Mathlib.Omega.{arith}
 use Prim.Native.Nat.{_≤_}
@@ -8,10 +8,10 @@ use lib.Dec.{leb}
 use borrow.Author.Tests.{not-true, not-false, leb-true}
 use Rattle.rules.specs.Blocks.{places}
 use Rattle.rules.proofs.Blocks.{twice-triangle}
-use Rattle.words.specs.Sayable.{sayableWork}
-use Rattle.words.proofs.Sayable.{sayable-work}
-use Rattle.words.proofs.block_work.Statement.{statement}
-use Rattle.words.proofs.block_work.Tie as tie
+use Rattle.block.specs.Sayable.{sayableWork}
+use Rattle.block.proofs.Sayable.{sayable-work}
+use Rattle.block.proofs.block_work.Statement.{statement}
+use Rattle.block.proofs.block_work.Tie as tie
 
 is-sayable-requires : tie.Need-is-sayable-requires
 is-sayable-requires c κs = search needs

@@ -1,4 +1,4 @@
--- `product::blocks_within` meets its contract.
+-- `words::blocks_within` meets its contract.
 use borrow.Author.Needs.{needs}
 use Prim.Native.Nat.{_-_, _≤_}
 use mathlib.Core.Path.{_≡_, sym, ap, _∙_}
@@ -14,8 +14,8 @@ use lib.ListN.{drop}
 use Rattle.rules.specs.Blocks.{places}
 use mathlib.Core.Bool.{false}
 use lib.Dec.{leb}
-use Rattle.product.proofs.blocks_within.Statement.{statement}
-use Rattle.product.proofs.blocks_within.Tie as tie
+use Rattle.words.proofs.blocks_within.Statement.{statement}
+use Rattle.words.proofs.blocks_within.Tie as tie
 
 abbrev Inv-loop : tie.InvT-loop
 Inv-loop words i₀ i-end i = (blocksWithin (blocksOf (drop i words)) ≡ blocksWithin (blocksOf words)) × (i ≤ length words) × (i-end ≡ length words)

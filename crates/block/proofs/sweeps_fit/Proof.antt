@@ -1,8 +1,8 @@
--- `words::sweeps_fit` meets its contract.
+-- `block::sweeps_fit` meets its contract.
 use native.Mathlib.Omega.{arith}
 use borrow.Author.Tests.{le-leb, lt-leb}
-use Rattle.words.proofs.sweeps_fit.Statement.{statement}
-use Rattle.words.proofs.sweeps_fit.Tie as tie
+use Rattle.block.proofs.sweeps_fit.Statement.{statement}
+use Rattle.block.proofs.sweeps_fit.Tie as tie
 
 returns : tie.Need-returns
 returns c = rw (lt-leb 1 (c .before .before .args .par .«sweep_limit») (omega arith))

@@ -1,6 +1,6 @@
 // The projection of one block, onto the cone of its kind.
 use block::block_fits;
-use float::root_two;
+use root::root_two;
 use rules::Cone;
 use rules::Projection;
 use rules::SolverParam;

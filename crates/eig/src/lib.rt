@@ -1,8 +1,8 @@
 // map_eig of floatgeneric.rs: the semidefinite projection.
 use block::block_fits;
-use float::root_two;
 use jacobi::jacobi_eig;
 use matrix::triangle;
+use root::root_two;
 use rules::Cone;
 use rules::Projection;
 use rules::SolverParam;

@@ -14,7 +14,7 @@ pub fn norm(x: &[f64]) -> f64
     for i in 0..x.len() {
         sum = sum + x[i] * x[i];
     }
-    float::root(sum)
+    root::root(sum)
 }
 
 // y becomes x.

@@ -82,7 +82,7 @@ fn fr_norm(t: &[f64]) -> f64
     ensures { λ r. ⌜ r ≡ frNorm (now (t .entry)) ⌝ }
 {
     let norm = linalg::norm(t);
-    float::root(0.0 + norm * norm)
+    root::root(0.0 + norm * norm)
 }
 
 // x and y are multiplied by 0, and tau is set to 1.

@@ -1,10 +1,10 @@
--- `float::roots::guess` meets its contract, which says nothing: only the pattern of the first guess has to be no NaN's. Assumes nothing.
+-- `root::roots::guess` meets its contract, which says nothing: only the pattern of the first guess has to be no NaN's. Assumes nothing.
 use borrow.Author.Needs.{needs}
 use native.Mathlib.Omega.{arith}
 use Prim.Native.Nat.{_-_, _/_}
 use Rattle.rules.proofs.RootPatterns.{no-nan-pattern}
-use Rattle.float.proofs.roots.guess.Statement.{statement}
-use Rattle.float.proofs.roots.guess.Tie as tie
+use Rattle.root.proofs.roots.guess.Statement.{statement}
+use Rattle.root.proofs.roots.guess.Tie as tie
 
 sub-y : tie.Need-sub-y
 sub-y c = search needs

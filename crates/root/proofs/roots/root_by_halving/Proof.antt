@@ -1,11 +1,11 @@
--- `float::roots::root_by_halving` meets its contract: the digits found are the nearest, and their pattern is the root's. Assumes nothing.
+-- `root::roots::root_by_halving` meets its contract: the digits found are the nearest, and their pattern is the root's. Assumes nothing.
 use borrow.Author.Needs.{needs}
 use native.Mathlib.Omega.{arith}
 use Prim.Native.Nat.{_+_, _*_, _^_}
 use mathlib.Core.Path.{sym}
 use Rattle.rules.proofs.RootPatterns.{no-nan-pattern, root-pattern}
-use Rattle.float.proofs.roots.root_by_halving.Statement.{statement}
-use Rattle.float.proofs.roots.root_by_halving.Tie as tie
+use Rattle.root.proofs.roots.root_by_halving.Statement.{statement}
+use Rattle.root.proofs.roots.root_by_halving.Tie as tie
 
 mul-result : tie.Need-mul-result
 mul-result c = search needs

@@ -1,4 +1,4 @@
--- `float::roots::enough` meets its contract: the product by the two parts of q, h of 26 digits and l of 27. Assumes nothing.
+-- `root::roots::enough` meets its contract: the product by the two parts of q, h of 26 digits and l of 27. Assumes nothing.
 use Prim.Native.Nat.{ℕ, _+_, _*_, _/_, _%_, _^_, _≤_, _<_}
 use native.Mathlib.Nat.{mul-le-mul, mul-add, add-mul, mul-assoc, mul-comm, mul-left-comm, mul-mul-mul-comm, mul-right-comm}
 use native.Mathlib.Omega.{arith}
@@ -6,8 +6,8 @@ use mathlib.Core.Path.{_≡_, refl, sym, ap, _∙_}
 use mathlib.Core.Bool.{Bool, true, false}
 use borrow.Author.Tests.{leb-true, leb-false, le-leb, lt-leb}
 use lib.Dec.{leb}
-use Rattle.float.proofs.roots.enough.Statement.{statement}
-use Rattle.float.proofs.roots.enough.Tie as tie
+use Rattle.root.proofs.roots.enough.Statement.{statement}
+use Rattle.root.proofs.roots.enough.Tie as tie
 
 abbrev h : tie.Start → ℕ
 h c = c .args .q / 134217728

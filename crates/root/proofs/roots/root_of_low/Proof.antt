@@ -1,4 +1,4 @@
--- `float::roots::root_of_low` meets its contract. The loop's invariant: the number is as it was, its digits moved up. The measure is how far they can still go. Assumes nothing.
+-- `root::roots::root_of_low` meets its contract. The loop's invariant: the number is as it was, its digits moved up. The measure is how far they can still go. Assumes nothing.
 use native.Mathlib.Omega.{arith}
 use Prim.Native.Nat.{ℕ, suc, _+_, _-_, _*_, _%_, _^_, _≤_, _<_}
 use mathlib.Core.Path.{_≡_, refl, sym, ap, _∙_}
@@ -6,8 +6,8 @@ use native.Mathlib.Nat.{mul-assoc, pow-succ'}
 use lib.Ieee.{binary64}
 use Rattle.rules.specs.Root.{rootOfUnits}
 use Rattle.rules.proofs.RootPatterns.{root-of-low, even-places, moved, places-left}
-use Rattle.float.proofs.roots.root_of_low.Statement.{statement}
-use Rattle.float.proofs.roots.root_of_low.Tie as tie
+use Rattle.root.proofs.roots.root_of_low.Statement.{statement}
+use Rattle.root.proofs.roots.root_of_low.Tie as tie
 
 abbrev Inv-loop : tie.InvT-loop
 Inv-loop b t₀ places₀ t places = (0 < t) × (t < 2 ^ 53) × (places ≤ 1074) × (t * 2 ^ places ≡ b * 2 ^ 1074)

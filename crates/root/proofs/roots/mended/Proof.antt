@@ -1,4 +1,4 @@
--- `float::roots::mended` meets its contract, which says nothing: only the two patterns have to be no NaN's. Assumes nothing.
+-- `root::roots::mended` meets its contract, which says nothing: only the two patterns have to be no NaN's. Assumes nothing.
 use Prim.Native.Nat.{ℕ, _-_, _*_, _%_, _^_, _≤_}
 use native.Mathlib.Omega.{arith}
 use mathlib.Core.Path.{sym, subst}
@@ -6,8 +6,8 @@ use lib.Dec.{T}
 use lib.Ieee.{binary64, fits, toBits}
 use Rattle.rules.proofs.RootPatterns.{no-nan-pattern, pattern-of-no-nan, equal-to-itself}
 use borrow.Author.Needs.{needs}
-use Rattle.float.proofs.roots.mended.Statement.{statement}
-use Rattle.float.proofs.roots.mended.Tie as tie
+use Rattle.root.proofs.roots.mended.Statement.{statement}
+use Rattle.root.proofs.roots.mended.Tie as tie
 
 float-to-bits-b : tie.Need-float-to-bits-b
 float-to-bits-b c = equal-to-itself (c .before .args .s) (c .if1 .taken)

@@ -1,4 +1,4 @@
--- `float::roots::root_of_normal` meets its contract: by the digits of the pattern, moved up by one place where that leaves an even number of places. Assumes nothing.
+-- `root::roots::root_of_normal` meets its contract: by the digits of the pattern, moved up by one place where that leaves an even number of places. Assumes nothing.
 use borrow.Author.Needs.{needs}
 use native.Mathlib.Omega.{arith}
 use Prim.Native.Nat.{ℕ, _+_, _-_, _*_, _/_, _%_, _^_}
@@ -6,9 +6,9 @@ use mathlib.Core.Path.{_≡_, sym, ap, _∙_}
 use lib.Ieee.{binary64, ofBits}
 use Rattle.rules.specs.Root.{rootOfUnits, root}
 use Rattle.rules.proofs.RootPatterns.{root-of-normal, even-places, moved}
-use Rattle.float.specs.Root.{Digits}
-use Rattle.float.proofs.roots.root_of_normal.Statement.{statement}
-use Rattle.float.proofs.roots.root_of_normal.Tie as tie
+use Rattle.root.specs.Root.{Digits}
+use Rattle.root.proofs.roots.root_of_normal.Statement.{statement}
+use Rattle.root.proofs.roots.root_of_normal.Tie as tie
 
 add-places : tie.Need-add-places
 add-places c = search needs

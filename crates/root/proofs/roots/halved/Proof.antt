@@ -1,11 +1,11 @@
--- `float::roots::halved` meets its contract. The loop's invariant: what is looked for is lo or more and hi or less. The measure is what lies between. Assumes nothing.
+-- `root::roots::halved` meets its contract. The loop's invariant: what is looked for is lo or more and hi or less. The measure is what lies between. Assumes nothing.
 use Prim.Native.Nat.{ℕ, _+_, _-_, _*_, _/_, _^_, _≤_, _<_}
 use native.Mathlib.Omega.{arith}
 use mathlib.Core.Path.{_≡_, sym, _∙_, subst}
 use borrow.Author.Tests.{leb-true, leb-false}
 use Rattle.rules.proofs.Root.{at-most, above-last}
-use Rattle.float.proofs.roots.halved.Statement.{statement}
-use Rattle.float.proofs.roots.halved.Tie as tie
+use Rattle.root.proofs.roots.halved.Statement.{statement}
+use Rattle.root.proofs.roots.halved.Tie as tie
 
 abbrev Inv-loop : tie.InvT-loop
 Inv-loop m lo₀ hi₀ lo hi = (2 ^ 52 ≤ lo) × (lo ≤ hi) × (hi < 2 ^ 53) × (lo * lo < m * 2 ^ 52 + lo) × (m * 2 ^ 52 ≤ hi * hi + hi)

@@ -1,4 +1,4 @@
--- `float::roots::root` meets its contract: below zero, at zero and at NaN by the rule's own cases, above zero by the pattern. Assumes nothing.
+-- `root::roots::root` meets its contract: below zero, at zero and at NaN by the rule's own cases, above zero by the pattern. Assumes nothing.
 use Prim.Native.Nat.{ℕ, zero, suc, _+_, _*_, _/_, _%_, _^_, _≤_, _<_}
 use native.Mathlib.Nat.{eq-zero-or-pos, lt-of-not-le, mul-pos, zero-lt-suc}
 use native.Mathlib.Omega.{arith}
@@ -15,8 +15,8 @@ use lib.Ieee.Fits.{up-pos}
 use lib.Ieee.Bits.{ofBits-toBits}
 use Rattle.rules.specs.Root.{root}
 use Rattle.rules.proofs.RootPatterns.{pattern-of-no-nan}
-use Rattle.float.proofs.roots.root.Statement.{statement}
-use Rattle.float.proofs.roots.root.Tie as tie
+use Rattle.root.proofs.roots.root.Statement.{statement}
+use Rattle.root.proofs.roots.root.Tie as tie
 
 abbrev +0 : Float
 +0 = ofBits binary64 0

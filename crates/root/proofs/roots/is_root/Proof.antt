@@ -1,4 +1,4 @@
--- `float::roots::is_root` meets its contract: a guess that passes both tests has the root's pattern. Assumes nothing.
+-- `root::roots::is_root` meets its contract: a guess that passes both tests has the root's pattern. Assumes nothing.
 use borrow.Author.Needs.{needs}
 use native.Mathlib.Omega.{arith}
 use Prim.Native.Nat.{ℕ, _+_, _-_, _*_, _/_, _%_, _^_, _≤_, _<_}
@@ -10,9 +10,9 @@ use lib.Ieee.Bits.{ofBits-toBits}
 use Rattle.rules.specs.Root.{rootOfUnits}
 use Rattle.rules.proofs.Root.{at-most, above-last}
 use Rattle.rules.proofs.RootPatterns.{equal-to-itself, root-pattern}
-use Rattle.float.specs.Root.{Digits}
-use Rattle.float.proofs.roots.is_root.Statement.{statement}
-use Rattle.float.proofs.roots.is_root.Tie as tie
+use Rattle.root.specs.Root.{Digits}
+use Rattle.root.proofs.roots.is_root.Statement.{statement}
+use Rattle.root.proofs.roots.is_root.Tie as tie
 
 float-to-bits-b : tie.Need-float-to-bits-b
 float-to-bits-b c = equal-to-itself (c .before .args .g) (c .if1 .taken)

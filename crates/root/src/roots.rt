@@ -8,7 +8,7 @@ ghost use Prim.Native.Nat.{_+_, _*_, _^_, _≤_, _<_};
 ghost use lib.Dec.{leb};
 ghost use lib.Ieee.{binary64, ofBits};
 ghost use Rattle.rules.specs.Root as rules;
-ghost use Rattle.float.specs.Root.{Digits, Halved};
+ghost use Rattle.root.specs.Root.{Digits, Halved};
 
 // The root: a zero keeps its sign, and below zero the answer is NaN.
 pub fn root(x: f64) -> f64

@@ -37,7 +37,7 @@ fn proj_soc(x: &mut [f64]) -> bool
         return true;
     }
     let s = x[0];
-    let v = linalg::norm(&x[1..]);
+    let v = sums::norm(&x[1..]);
     if v <= -s {
         linalg::scale(0.0, &mut x[1..]);
         x[0] = 0.0;

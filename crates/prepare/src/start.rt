@@ -81,7 +81,7 @@ fn column_in(v: &[f64], t: &mut [f64])
 fn fr_norm(t: &[f64]) -> f64
     ensures { λ r. ⌜ r ≡ frNorm (now (t .entry)) ⌝ }
 {
-    let norm = linalg::norm(t);
+    let norm = sums::norm(t);
     root::root(0.0 + norm * norm)
 }
 

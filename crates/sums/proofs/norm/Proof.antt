@@ -1,4 +1,4 @@
--- `linalg::norm` meets its contract.
+-- `sums::norm` meets its contract.
 use Prim.Native.Nat.{_-_, _≤_}
 use mathlib.Core.Path.{_≡_, refl, _∙_, ap}
 use lib.ListN.{length}
@@ -8,8 +8,8 @@ use Rattle.rules.specs.Root.{root}
 use Rattle.rules.specs.Vectors.{norm}
 use Rattle.rules.proofs.Arithmetic.{Summed, summed-none, summed-more, summed-all}
 use borrow.Author.Needs.{needs}
-use Rattle.linalg.proofs.norm.Statement.{statement}
-use Rattle.linalg.proofs.norm.Tie as tie
+use Rattle.sums.proofs.norm.Statement.{statement}
+use Rattle.sums.proofs.norm.Tie as tie
 
 abbrev Inv-loop : tie.InvT-loop
 Inv-loop x sum₀ i₀ i-end sum i = Summed +0 (λ k. at x k *ᶠ at x k) i sum × (i ≤ length x) × (i-end ≡ length x)

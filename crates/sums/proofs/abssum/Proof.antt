@@ -1,4 +1,4 @@
--- `linalg::abssum` meets its contract: each term that is counted lies inside x.
+-- `sums::abssum` meets its contract: each term that is counted lies inside x.
 use Prim.Native.Nat.{_-_, _*_, _<_, _≤_}
 use native.Mathlib.Nat.{div-le-self}
 use native.Mathlib.Omega.{arith}
@@ -10,8 +10,8 @@ use Rattle.rules.specs.Arithmetic.{+0, at}
 use Rattle.rules.specs.Vectors.{strides}
 use Rattle.rules.proofs.Arithmetic.{Summed, summed-none, summed-more}
 use Rattle.rules.proofs.Vectors.{strides-some, stride-inside, abssum-of-no-step, abssum-of-nothing, abssum-summed}
-use Rattle.linalg.proofs.abssum.Statement.{statement}
-use Rattle.linalg.proofs.abssum.Tie as tie
+use Rattle.sums.proofs.abssum.Statement.{statement}
+use Rattle.sums.proofs.abssum.Tie as tie
 
 abbrev Inv-loop : tie.InvT-loop
 Inv-loop x incx terms sum₀ k₀ sum k = Summed +0 (λ k. magnitude (at x (k * incx))) k sum × (k ≤ terms) × (0 < incx) × (terms ≡ strides (length x) incx) × (terms ≤ length x)

@@ -1,10 +1,10 @@
--- `cone::proj_rotsoc` meets its contract.
+-- `second_order::proj_rotsoc` meets its contract.
 use native.Mathlib.Omega.{arith}
 use mathlib.Core.Path.{_∙_}
 use Rattle.rules.proofs.Projections.{rotated-none, rotated-one, rotated-more}
 use borrow.Author.Needs.{needs}
-use Rattle.cone.proofs.proj_rotsoc.Statement.{statement}
-use Rattle.cone.proofs.proj_rotsoc.Tie as tie
+use Rattle.second_order.proofs.proj_rotsoc.Statement.{statement}
+use Rattle.second_order.proofs.proj_rotsoc.Tie as tie
 
 slice-read-larger : tie.Need-slice-read-larger
 slice-read-larger c = search needs

@@ -1,10 +1,10 @@
--- `cone::reflect` meets its contract.
+-- `second_order::reflect` meets its contract.
 use native.Mathlib.Omega.{arith}
 use mathlib.Core.Path.{_∙_}
 use Rattle.rules.proofs.Projections.{reflected-more}
 use borrow.Author.Needs.{needs}
-use Rattle.cone.proofs.reflect.Statement.{statement}
-use Rattle.cone.proofs.reflect.Tie as tie
+use Rattle.second_order.proofs.reflect.Statement.{statement}
+use Rattle.second_order.proofs.reflect.Tie as tie
 
 slice-read-r : tie.Need-slice-read-r
 slice-read-r c = search needs

@@ -1,4 +1,4 @@
--- `cone::proj_soc` meets its contract: its four ways are those of the rule.
+-- `second_order::proj_inside` meets its contract: its four ways are those of the rule.
 use native.Mathlib.Omega.{arith}
 use Prim.Native.Nat.{_<_}
 use mathlib.Core.Path.{refl}
@@ -6,8 +6,8 @@ use mathlib.Core.Bool.{false≢true}
 use lib.ListN.{length}
 use Rattle.rules.proofs.Projections.{soc-none, soc-apex, soc-inside, soc-outside, one-is, two-is}
 use borrow.Author.Needs.{needs}
-use Rattle.cone.proofs.proj_soc.Statement.{statement}
-use Rattle.cone.proofs.proj_soc.Tie as tie
+use Rattle.second_order.proofs.proj_inside.Statement.{statement}
+use Rattle.second_order.proofs.proj_inside.Tie as tie
 
 some : (c : tie.Else1) → 0 < length (c .before .before .args .x .now)
 some c = omega (arith, c .if1 .left)
@@ -78,8 +78,8 @@ same-length-3 c = search needs
 returns-4 : tie.Need-returns-4
 returns-4 c = (rw two-is (soc-outside _ _ _ (some (c .before .before .before .before .before .before .before .before .before .before)) (c .before .before .before .before .before .before .norm .ensures) (c .before .before .before .before .before .if2 .left) (c .before .before .before .before .if3 .left) (rw (one-is, two-is) at (c .before .before .scale2 .ensures))), λ e. absurd (false≢true e))
 
-pub proj-soc-spec : {M : Type 1} → statement M
-proj-soc-spec =
+pub proj-inside-spec : {M : Type 1} → statement M
+proj-inside-spec =
     tie.close
     (tie.spec
     returns

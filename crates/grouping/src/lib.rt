@@ -1,8 +1,8 @@
 // Grouping a list of blocks: each has its part of the lent slice, in list order.
-use product::list_fits;
+use block::places_of;
 use rules::Cone;
 use rules::Word;
-use words::places_of;
+use words::list_fits;
 use words::read_word;
 ghost use mathlib.Core.Path.{_≡_};
 ghost use mathlib.Core.Bool.{true};

@@ -1,9 +1,9 @@
 // The cones of a step: all dual blocks of a vector like x, then all primal blocks.
-use product::product_fits;
 use rules::Product;
 use rules::Shape;
 use rules::SolverParam;
 use shape::fits_x;
+use words::product_fits;
 ghost use Prim.Native.Nat.{_≤_};
 ghost use mathlib.Core.Bool.{true};
 ghost use lib.ListN.{length};

@@ -62,7 +62,7 @@ same-length-3 c = search needs
 
 returns-4 : tie.Need-returns-4
 unfolding projBlock
-returns-4 c = block-done (sym (c .before .before .before .before .before .before .before .block-fits .ensures) ∙ not-false _ (c .before .before .before .before .before .before .if1 .left)) (rw (c .before .before .before .before .enum-told3 .given .1, c .before .before .proj-soc .ensures .0))
+returns-4 c = block-done (sym (c .before .before .before .before .before .before .before .block-fits .ensures) ∙ not-false _ (c .before .before .before .before .before .before .if1 .left)) (rw (c .before .before .before .before .enum-told3 .given .1, c .before .before .proj-soc .ensures))
 
 same-length-4 : tie.Need-same-length-4
 same-length-4 c = search needs

@@ -2,7 +2,6 @@
 // the pattern of a number and that of its root, as compare/README.md says. Each root is taken again
 // by root::root and held to the list.
 use libc::STDOUT_FILENO;
-use replay::lines;
 
 struct Tally {
     agree: u64,

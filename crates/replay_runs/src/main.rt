@@ -4,7 +4,6 @@
 mod cases;
 
 use libc::STDOUT_FILENO;
-use replay::lines;
 use replay_problems::room::A_ROOM;
 use replay_problems::runs;
 use replay_problems::runs::Found;

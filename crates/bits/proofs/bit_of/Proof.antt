@@ -1,11 +1,11 @@
--- `card::digits::bit_of` meets its contract.
+-- `bits::bit_of` meets its contract.
 use borrow.Author.Needs.{needs}
 use native.Mathlib.Omega.{arith}
 use native.Mathlib.Nat.{one-le-pow}
 use mathlib.Core.Path.{sym}
-use Rattle.card.proofs.Bits.{bit-of, bit-of-high, bit-of-past}
-use Rattle.card.proofs.digits.bit_of.Statement.{statement}
-use Rattle.card.proofs.digits.bit_of.Tie as tie
+use Rattle.bits.proofs.Bits.{bit-of, bit-of-high, bit-of-past}
+use Rattle.bits.proofs.bit_of.Statement.{statement}
+use Rattle.bits.proofs.bit_of.Tie as tie
 
 sub-exponent : tie.Need-sub-exponent
 sub-exponent c = search needs

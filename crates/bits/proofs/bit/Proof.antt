@@ -1,14 +1,14 @@
--- `card::digits::bit` meets its contract.
+-- `bits::bit` meets its contract.
 use borrow.Author.Needs.{needs}
 use native.Mathlib.Omega.{arith}
 use native.Mathlib.Nat.{one-le-pow}
 use Prim.Native.Nat.{_/_}
 use mathlib.Core.Path.{sym}
 use lib.ListN.{List·getD-eq-default}
-use Rattle.card.specs.Card.{bitsOfBytes}
-use Rattle.card.proofs.Bits.{bits-length, byte-bit}
-use Rattle.card.proofs.digits.bit.Statement.{statement}
-use Rattle.card.proofs.digits.bit.Tie as tie
+use Rattle.bits.specs.Bits.{bitsOfBytes}
+use Rattle.bits.proofs.Bits.{bits-length, byte-bit}
+use Rattle.bits.proofs.bit.Statement.{statement}
+use Rattle.bits.proofs.bit.Tie as tie
 
 sub-power : tie.Need-sub-power
 sub-power c = search needs

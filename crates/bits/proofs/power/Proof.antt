@@ -1,12 +1,12 @@
--- `card::digits::power` meets its contract: after k passes it is 2 ^ k.
+-- `bits::power` meets its contract: after k passes it is 2 ^ k.
 use borrow.Author.Needs.{needs}
 use native.Mathlib.Omega.{arith}
 use native.Mathlib.Nat.{pow-suc, pow-le-pow-right}
 use native.Mathlib.Numerals.{add-one}
 use Prim.Native.Nat.{ℕ, _+_, _-_, _*_, _^_, _≤_, _<_}
 use mathlib.Core.Path.{_≡_, refl, ap, _∙_}
-use Rattle.card.proofs.digits.power.Statement.{statement}
-use Rattle.card.proofs.digits.power.Tie as tie
+use Rattle.bits.proofs.power.Statement.{statement}
+use Rattle.bits.proofs.power.Tie as tie
 
 abbrev Inv-loop : tie.InvT-loop
 Inv-loop exponent p₀ k₀ p k = (p ≡ 2 ^ k) × (k ≤ exponent)

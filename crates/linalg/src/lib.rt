@@ -1,9 +1,20 @@
-// The vector routines of floatgeneric.rs. A routine that takes two lengths answers a plain no, and
+// The vector routines of floatgeneric.rs, and one that clears. A routine that takes two lengths answers a plain no, and
 // changes nothing, where they don't fit; no length is too large.
 ghost use mathlib.Core.Path.{_≡_};
 ghost use mathlib.Core.Bool.{_&&_};
+ghost use lib.ListN.{length};
 ghost use Rattle.rules.specs.Outcome.{Outcome};
+ghost use Rattle.rules.specs.Prepare.{zeros};
 ghost use Rattle.rules.specs.Vectors.{sameLength, scaled, added, shifted, transformedDi};
+
+// Every place becomes +0.
+pub fn clear(v: &mut [f64])
+    ensures { λ _. ⌜ now (v .exit) ≡ zeros (length (now (v .entry))) ⌝ }
+{
+    for k in 0..v.len() {
+        v[k] = 0.0;
+    }
+}
 
 // y becomes x.
 pub fn copy(x: &[f64], y: &mut [f64]) -> bool

@@ -128,7 +128,7 @@ fn settle_in(
 {
     if verdict::is_cone_failure(ending) {
         clear_front(m, n, work);
-        parts::clear(cone_work);
+        linalg::clear(cone_work);
         return;
     }
     parts::finish(m, n, verdict::is_scaled(ending), x);
@@ -142,5 +142,5 @@ fn clear_front(m: usize, n: usize, work: &mut [f64])
     ensures { λ _. ⌜ now (work .exit) ≡ zeros (workLength m n) ++ drop (workLength m n) (now (work .entry)) ⌝ }
 {
     let required = 6 * n + 10 * m + 6;
-    parts::clear(&mut work[0..required]);
+    linalg::clear(&mut work[0..required]);
 }

@@ -38,7 +38,7 @@ pub(crate) fn run_in(
         (now (work .entry)) r (now (work .exit)) (now («cone_work» .exit))
         ⌝ }
 {
-    settle::clear(cone_work);
+    linalg::clear(cone_work);
     let prepared = prepare::prepare(par, shape, c, a, b, words, x, y, dp_tau, dp_sigma);
     let norms = norms_of(prepared);
     let ran = iterate::iterate(

@@ -1,13 +1,13 @@
--- `settle::parts::clear` meets its contract.
+-- `linalg::clear` meets its contract.
 use Prim.Native.Nat.{_-_}
 use mathlib.Core.Path.{_≡_, refl, _∙_}
 use lib.ListN.{length}
 use borrow.Author.Needs.{needs}
 use Rattle.rules.specs.Arithmetic.{+0}
 use Rattle.rules.proofs.Arithmetic.{Reached, reached-none, reached-more, reached-all}
-use Rattle.settle.proofs.Parted.{cleared}
-use Rattle.settle.proofs.parts.clear.Statement.{statement}
-use Rattle.settle.proofs.parts.clear.Tie as tie
+use Rattle.linalg.proofs.Cleared.{cleared}
+use Rattle.linalg.proofs.clear.Statement.{statement}
+use Rattle.linalg.proofs.clear.Tie as tie
 
 abbrev Inv-loop : tie.InvT-loop
 Inv-loop v₀ k₀ k-end v k = Reached (λ p w. +0) k v₀ v × (k-end ≡ length v₀)

@@ -2,8 +2,8 @@
 use block::places_of;
 use rules::Cone;
 use rules::Word;
+use word::read_word;
 use words::list_fits;
-use words::read_word;
 ghost use mathlib.Core.Path.{_≡_};
 ghost use mathlib.Core.Bool.{true};
 ghost use Rattle.rules.specs.Outcome.{Outcome};

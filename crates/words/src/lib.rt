@@ -1,52 +1,15 @@
-// The cone list: the only place that knows words. Everything else is over the blocks.
+// The cone list: whether it is good, the cone work that it needs, and whether it fits.
 use block::block_work;
 use block::is_within;
 use block::places_of;
 use block::sweeps_fit;
-use matrix::triangle;
-use rules::Cone;
 use rules::MOST_PLACES;
 use rules::SolverParam;
 use rules::Word;
+use word::read_word;
 ghost use mathlib.Core.Path.{_≡_};
-ghost use Rattle.rules.specs.Blocks.{orderOf, readWord, blocksOf, isBadCone};
+ghost use Rattle.rules.specs.Blocks.{blocksOf, isBadCone};
 ghost use Rattle.rules.specs.Product.{coneWork, blocksWithin, sumsFit, lengthsFit};
-
-// The largest order whose triangle has at most that many places, of those that a word can say.
-fn order_of(size: usize) -> usize
-    ensures { λ r. ⌜ r ≡ orderOf size ⌝ }
-{
-    let mut order: usize = 127;
-    while 0 < order {
-        if triangle(order) <= size {
-            return order;
-        }
-        order = order - 1;
-    }
-    0
-}
-
-// What a cone word says: 3 bits of kind, then 13 bits of size.
-pub fn read_word(word: u16) -> Word
-    ensures { λ r. ⌜ r ≡ readWord word ⌝ }
-{
-    let size = (word % 8192) as usize;
-    match word / 8192 {
-        0 => Word::Block(Cone::Zero(size)),
-        1 => Word::Block(Cone::RPos(size)),
-        2 => Word::Block(Cone::SOC(size)),
-        3 => Word::Block(Cone::RotSOC(size)),
-        4 => {
-            let order = order_of(size);
-            if triangle(order) == size {
-                Word::Block(Cone::PSD(order))
-            } else {
-                Word::Bad
-            }
-        }
-        _ => Word::Bad,
-    }
-}
 
 // Whether a list has a word that is bad, or blocks that don't add up to that many places.
 pub fn is_bad_cone(words: &[u16], places: usize) -> bool

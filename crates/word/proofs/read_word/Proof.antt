@@ -1,4 +1,4 @@
--- `words::read_word` meets its contract.
+-- `word::read_word` meets its contract.
 use borrow.Author.Needs.{needs}
 use native.Mathlib.Omega.{arith}
 use Prim.Native.Nat.{_/_, _%_, _≤_}
@@ -8,8 +8,8 @@ use Rattle.rules.specs.Matrices.{triangle}
 use Rattle.rules.specs.Blocks.{readWord, readKind}
 use Rattle.matrix.proofs.Counted.{counted-is}
 use borrow.Author.Tests.{eq-eqb, ne-eqb}
-use Rattle.words.proofs.read_word.Statement.{statement}
-use Rattle.words.proofs.read_word.Tie as tie
+use Rattle.word.proofs.read_word.Statement.{statement}
+use Rattle.word.proofs.read_word.Tie as tie
 
 cast-size : tie.Need-cast-size
 cast-size c = search needs

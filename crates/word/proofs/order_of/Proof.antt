@@ -1,4 +1,4 @@
--- `words::order_of` meets its contract: from above, the first order that is small enough is the largest.
+-- `word::order_of` meets its contract: from above, the first order that is small enough is the largest.
 use native.Mathlib.Omega.{arith}
 use Prim.Native.Nat.{_≤_, _<_}
 use mathlib.Core.Path.{_≡_, refl, sym, _∙_}
@@ -7,8 +7,8 @@ use Rattle.rules.specs.Blocks.{orderUpTo, orderOf}
 use Rattle.rules.proofs.Blocks.{order-found, order-less}
 use Rattle.matrix.proofs.Counted.{counted-is}
 use borrow.Author.Needs.{needs}
-use Rattle.words.proofs.order_of.Statement.{statement}
-use Rattle.words.proofs.order_of.Tie as tie
+use Rattle.word.proofs.order_of.Statement.{statement}
+use Rattle.word.proofs.order_of.Tie as tie
 
 abbrev Inv-loop : tie.InvT-loop
 Inv-loop size order₀ order = (order ≤ 127) × (orderUpTo order size ≡ orderOf size)

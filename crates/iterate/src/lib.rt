@@ -1,6 +1,4 @@
-// The steps of a run, up to the one that ends it.
-use rules::Answer;
-use rules::MOST_STEPS;
+// A piece of a run: its steps, up to the one that ends it or as many as are given.
 use rules::Norms;
 use rules::Shape;
 use rules::SolverParam;
@@ -8,17 +6,17 @@ use rules::Verdict;
 use whole_step::StepAnswer;
 use whole_step::whole_step;
 ghost use Rattle.rules.specs.Problem.{problemIn};
-ghost use Rattle.step.specs.Update.{stateOf};
-ghost use Rattle.iterate.specs.Iterate.{runFits, IterateOutcome};
+ghost use Rattle.step.specs.Update.{stateOf, stepFits};
+ghost use Rattle.iterate.specs.Iterate.{IterateOutcome};
 
-// What the steps of a run answer: how it ended, with their number and their rotations, or a plain no.
+// What a piece answers: what its last step said, the steps by then and the rotations made, or a plain no.
 pub enum Iterated {
-    Ran(Answer),
+    Made(Verdict, u64, u64),
     No,
 }
 
-// The steps of a run, from the first on. Where a length, a size, the cone list, the sweep limit or the allowance doesn't fit,
-// it answers no and changes nothing.
+// Steps, when so many are behind: at most as many as are given, and one where none is, as with max_iter. Where a length, a
+// size, the cone list or the sweep limit doesn't fit, it answers no and changes nothing.
 pub fn iterate(
     par: SolverParam,
     shape: Shape,
@@ -27,6 +25,8 @@ pub fn iterate(
     b: &[f64],
     words: &[u16],
     norms: Norms,
+    behind: u32,
+    given: u32,
     x: &mut [f64],
     y: &mut [f64],
     dp_tau: &[f64],
@@ -39,19 +39,19 @@ pub fn iterate(
         (let s = stateOf (now (x .entry)) (now (y .entry)) (now («dp_tau» .entry)) (now («dp_sigma» .entry))
         (now (rx .entry)) (now (tx .entry)) (now («cone_work» .entry)) in
         IterateOutcome
-        (runFits par shape (now (c .entry)) (now (a .entry)) (now (b .entry)) (now (words .entry)) s)
-        (problemIn shape (now (c .entry)) (now (a .entry)) (now (b .entry)) (now (words .entry)) par) norms s
+        (stepFits par shape (now (c .entry)) (now (a .entry)) (now (b .entry)) (now (words .entry)) s)
+        (problemIn shape (now (c .entry)) (now (a .entry)) (now (b .entry)) (now (words .entry)) par) norms
+        behind given s
         r
         (stateOf (now (x .exit)) (now (y .exit)) (now («dp_tau» .entry)) (now («dp_sigma» .entry))
         (now (rx .exit)) (now (tx .exit)) (now («cone_work» .exit))))
         ⌝ }
 {
-    if par.max_iter > MOST_STEPS {
-        return Iterated::No;
-    }
-    let mut k: u64 = 1;
+    let mut left = given;
+    let mut k = behind as u64;
     let mut q: u64 = 0;
     loop {
+        k = k + 1;
         let t = whole_step(
             par,
             shape,
@@ -73,15 +73,12 @@ pub fn iterate(
             StepAnswer::Said(v, made) => {
                 q = q + made;
                 match v {
-                    Verdict::Ends(e) => {
-                        return Iterated::Ran(Answer {
-                            ending: e,
-                            steps: k,
-                            rotations: q,
-                        });
-                    }
+                    Verdict::Ends(e) => return Iterated::Made(Verdict::Ends(e), k, q),
                     Verdict::GoesOn => {
-                        k = k + 1;
+                        if left <= 1 {
+                            return Iterated::Made(Verdict::GoesOn, k, q);
+                        }
+                        left = left - 1;
                     }
                 }
             }

@@ -13,10 +13,15 @@ use Rattle.rules.specs.Blocks.{hasBadWord, blocksOf, totalPlaces, isBadCone}
 use Rattle.rules.specs.Product.{coneWork}
 use Rattle.rules.specs.Problem.{Problem, embed, blocks, lengthX, lengthY, workLength}
 use Rattle.rules.specs.Step.{State}
+use Rattle.rules.specs.declared.Ending.{Ending}
+use Rattle.rules.specs.declared.Ending.the-variants.{ConeFailure}
+use Rattle.rules.specs.declared.Verdict.{Verdict}
+use Rattle.rules.specs.declared.Verdict.the-variants.{GoesOn, Ends}
 use Rattle.rules.specs.declared.Norms.{Norms}
 use Rattle.rules.specs.declared.Shape.{Shape}
 use Rattle.rules.specs.Prepare.{norms, prepared, preparedNorms, zeros}
-use Rattle.rules.specs.Run.{run, runFrom, allowance, laidOut, isConeFailure}
+use Rattle.rules.specs.Run.{Piece, endedBy, run, laidOut, isConeFailure}
+use Rattle.rules.proofs.Run.{run-is}
 use Rattle.rules.proofs.Lengths.{prepared-sized}
 use Rattle.shape.specs.Fitting.{LikeX, LikeY}
 use Rattle.rules.specs.Problem.{shapeOf}
@@ -26,12 +31,12 @@ use Rattle.prepare.specs.declared.Prepared.the-variants.{Done, No}
 use Rattle.prepare.proofs.Outcomes.{PreparedBy}
 use Rattle.step.specs.Update.{stateOf, StepReady}
 use Rattle.iterate.specs.declared.Iterated.{Iterated}
-use Rattle.iterate.specs.declared.Iterated.the-variants.{Ran, No as NoRun}
-use Rattle.iterate.specs.Iterate.{allSteps, answerOf}
+use Rattle.iterate.specs.declared.Iterated.the-variants.{Made, No as NoRun}
+use Rattle.iterate.specs.Iterate.{pieceOf}
 use Rattle.iterate.proofs.Outcomes.{RanBy}
 use Rattle.settle.specs.Settle.{Settled}
 use Rattle.settle.proofs.Parted.{final-finished}
-use Rattle.solver.specs.Solve.{Ready, Lent, AtZero, RanIn}
+use Rattle.solver.specs.Solve.{Ready, Lent, AtZero, answerOf, answerBy, RanIn}
 
 good-list : (words : List ℕ) (m : ℕ) → hasBadWord words ≡ false → totalPlaces (blocksOf words) ≡ m → isBadCone words m ≡ false
 unfolding isBadCone
@@ -69,10 +74,6 @@ covers {p} r = record { is = good }
     good : isBadCone (p .words) (p .m) ≡ false
     good = good-list (p .words) (p .m) (r .readable) (r .places)
 
-whole-is : (p : Problem) → run p ≡ runFrom (allowance (p .par)) p (preparedNorms p) 1 0 (prepared p)
-unfolding run
-whole-is p = refl
-
 prepared-is : {p : Problem} {x y dpTau dpSigma rx tx : List Float} {answer : Prepared} {x' y' dpTau' dpSigma' : List Float} → AtZero (shapeOf p) x y dpTau dpSigma rx tx → PreparedBy p x y dpTau answer x' y' dpTau' dpSigma' → (cone : List Float) → cone ≡ zeros (coneWork (blocks p)) → stateOf x' y' dpTau' dpSigma' rx tx cone ≡ prepared p
 unfolding prepared
 prepared-is z q cone e = rw (q .x-is, q .y-is, q .tau-is, q .sigma-is, z .x-zero, z .y-zero, z .tau-zero, z .rx-zero, z .tx-zero, e)
@@ -107,22 +108,24 @@ module _ {p : Problem} {x y dpTau dpSigma rx tx : List Float} {answer : Prepared
         tx-like = zero-tx z;
       }
 
-  -- all steps from there are the whole run
-  pub whole-run : {work cone cone' : List Float} {ns : Norms} {ran : Iterated} {to : State} → Lent p work cone → cone' ≡ zeros (length cone) → ns ≡ norms (embed p) x → RanBy (allSteps p ns (stateOf x' y' dpTau' dpSigma' rx tx cone')) ran to → RanBy (run p) ran to
-  whole-run {cone' = cone'} {ns} l e n r =
+  -- the piece from there, with all of the allowance, is the whole run
+  pub whole-run : {work cone cone' : List Float} {ns : Norms} → Lent p work cone → cone' ≡ zeros (length cone) → ns ≡ norms (embed p) x → run p ≡ endedBy (pieceOf p ns 0 (p .par .«max_iter») (stateOf x' y' dpTau' dpSigma' rx tx cone'))
+  whole-run {cone' = cone'} {ns} l e n =
       let from : stateOf x' y' dpTau' dpSigma' rx tx cone' ≡ prepared p = prepared-is z q cone' (e ∙ rw (l .cone-long)) in
       let start : ns ≡ preparedNorms p = n ∙ rw (z .x-zero) in
-      let all : allSteps p ns (stateOf x' y' dpTau' dpSigma' rx tx cone') ≡ run p = rw (from, start) (sym (whole-is p)) in
-      rw all at r
+      rw (from, start) (run-is p)
 
 -- ---- after the last step
 
-module _ {p : Problem} {ran : Iterated} {answer : Answer} {x y dpTau dpSigma rx tx cone work x' work' cone' : List Float} (i : RanBy (run p) ran (stateOf x y dpTau dpSigma rx tx cone)) (same : answer ≡ answerOf (run p)) (n : length cone ≡ coneWork (blocks p)) (b : Settled (p .m) (p .n) x y dpTau dpSigma rx tx work (answer .ending) cone x' work' cone') where
+module _ {p : Problem} {e : Piece} {ran : Iterated} {answer : Answer} {x y dpTau dpSigma rx tx cone work x' work' cone' : List Float} (whole : run p ≡ endedBy e) (i : RanBy e ran (stateOf x y dpTau dpSigma rx tx cone)) (same : answer ≡ answerOf (endedBy e)) (n : length cone ≡ coneWork (blocks p)) (b : Settled (p .m) (p .n) x y dpTau dpSigma rx tx work (answer .ending) cone x' work' cone') where
   pub ran-in : RanIn p work answer work' cone'
   ran-in = go (isConeFailure (run p .ending)) refl
     where
+      answered-is : answer ≡ answerOf (run p)
+      answered-is = rw whole same
+
       ending-is : answer .ending ≡ run p .ending
-      ending-is = rw same
+      ending-is = rw answered-is
 
       w' : work' ≡ cond (isConeFailure (run p .ending)) (zeros (workLength (p .m) (p .n))) (laidOut p (run p .ending) (stateOf x y dpTau dpSigma rx tx cone)) ++ drop (workLength (p .m) (p .n)) work
       w' = rw (final-finished p (run p .ending) x) (rw ending-is at (b .work-is))
@@ -131,10 +134,10 @@ module _ {p : Problem} {ran : Iterated} {answer : Answer} {x y dpTau dpSigma rx 
       k' = rw ending-is at (b .cone-is)
 
       go : (t : Bool) → isConeFailure (run p .ending) ≡ t → RanIn p work answer work' cone'
-      go true e = record { answered = same; work-is = rw e (rw e at w'); cone-is = rw e (rw (e, n) at k') }
-      go false e =
-          let s : stateOf x y dpTau dpSigma rx tx cone ≡ run p .state = i .state-is e in
-          record { answered = same; work-is = rw (e, ← s) (rw e at w'); cone-is = rw (e, ← s) (rw e at k') }
+      go true f = record { answered = answered-is; work-is = rw f (rw f at w'); cone-is = rw f (rw (f, n) at k') }
+      go false f =
+          let s : stateOf x y dpTau dpSigma rx tx cone ≡ run p .state = rw whole (i .state-is (rw whole at f)) in
+          record { answered = answered-is; work-is = rw (f, ← s) (rw f at w'); cone-is = rw (f, ← s) (rw f at k') }
 
 -- ---- what an answer holds
 
@@ -144,8 +147,20 @@ done-once e = cc
 pub none-done : {v : Norms} → No ≡ Done v → ⊥
 none-done e = let z : _≡_ {A = ℕ} 0 1 = cc in omega arith
 
-pub ran-once : {v w : Answer} → Ran v ≡ Ran w → v ≡ w
-ran-once e = cc
+-- of a piece that ended, of one that halted, and of none
+pub answer-ends : {v w : Verdict} {k q l r : ℕ} {x : Ending} → Made v k q ≡ Made w l r → v ≡ Ends x → record { ending = x; steps = k; rotations = q } ≡ answerBy w l r
+answer-ends {v} {w} {k} {q} {l} {r} {x} h is =
+    let said-is : w ≡ Ends x = cc in
+    let steps-are : k ≡ l = cc in
+    let rotations-are : q ≡ r = cc in
+    rw (said-is, steps-are, rotations-are)
 
-pub none-ran : {v : Answer} → NoRun ≡ Ran v → ⊥
-none-ran e = let z : _≡_ {A = ℕ} 0 1 = cc in omega arith
+pub answer-halts : {v w : Verdict} {k q l r : ℕ} → Made v k q ≡ Made w l r → v ≡ GoesOn → record { ending = ConeFailure 0; steps = k; rotations = q } ≡ answerBy w l r
+answer-halts {v} {w} {k} {q} {l} {r} h is =
+    let said-is : w ≡ GoesOn = cc in
+    let steps-are : k ≡ l = cc in
+    let rotations-are : q ≡ r = cc in
+    rw (said-is, steps-are, rotations-are)
+
+pub none-made : {v : Verdict} {k q : ℕ} → NoRun ≡ Made v k q → ⊥
+none-made e = let z : _≡_ {A = ℕ} 0 1 = cc in omega arith

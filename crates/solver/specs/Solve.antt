@@ -1,5 +1,5 @@
 -- What the pieces of an accepted run ask and leave, up to the whole of it.
-use Prim.Native.Nat.{_≤_}
+use Prim.Native.Nat.{ℕ, _≤_}
 use mathlib.Core.Path.{_≡_}
 use mathlib.Core.Bool.{true, false, cond}
 use mathlib.Core.List.{List, _++_}
@@ -7,16 +7,16 @@ use lib.Ieee.{Float}
 use lib.ListN.{length, drop}
 use Rattle.rules.specs.declared.Answer.{Answer}
 use Rattle.rules.specs.declared.Shape.{Shape}
+use Rattle.rules.specs.declared.Verdict.{Verdict}
 use Rattle.rules.specs.Limits.{mostSteps}
 use Rattle.rules.specs.Blocks.{hasBadWord, totalPlaces}
 use Rattle.rules.specs.Projections.{sweepsFit}
 use Rattle.rules.specs.Product.{coneWork}
 use Rattle.rules.specs.Problem.{Problem, blocks, lengthX, lengthY, workLength}
 use Rattle.rules.specs.Prepare.{zeros}
-use Rattle.rules.specs.Run.{run, laidOut, isConeFailure, leftBy}
+use Rattle.rules.specs.Run.{endingOf, Ended, run, laidOut, isConeFailure, leftBy}
 use Rattle.shape.specs.Fitting.{Fits}
 use Rattle.rules.specs.Problem.{shapeOf}
-use Rattle.iterate.specs.Iterate.{answerOf}
 
 -- a problem that was not turned away, as the run reads it
 pub record Ready (p : Problem) : Type 0 where
@@ -42,6 +42,13 @@ pub record AtZero (shape : Shape) (x y dpTau dpSigma rx tx : List Float) : Type 
   pub sigma-zero : dpSigma ≡ zeros (lengthY (shape .rows .0) (shape .cols .0))
   pub rx-zero : rx ≡ zeros (lengthX (shape .rows .0) (shape .cols .0))
   pub tx-zero : tx ≡ zeros (lengthX (shape .rows .0) (shape .cols .0))
+
+abbrev pub answerOf : Ended → Answer
+answerOf e = record { ending = e .ending; steps = e .steps; rotations = e .rotations }
+
+-- the same of what a piece of a run answers
+abbrev pub answerBy : Verdict → ℕ → ℕ → Answer
+answerBy said k q = record { ending = endingOf said; steps = k; rotations = q }
 
 -- what the whole run leaves; of cone work the required part
 pub record RanIn (p : Problem) (work : List Float) (answer : Answer) (work' cone' : List Float) : Type 0 where

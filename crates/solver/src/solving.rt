@@ -6,13 +6,15 @@ use rules::Ending;
 use rules::Norms;
 use rules::Shape;
 use rules::SolverParam;
+use rules::Verdict;
+ghost use Prim.Native.Nat.{ℕ};
 ghost use mathlib.Core.Path.{_≡_};
-ghost use Rattle.rules.specs.declared.Answer.{Answer};
 ghost use Rattle.rules.specs.declared.Norms.{Norms};
+ghost use Rattle.rules.specs.declared.Verdict.{Verdict};
 ghost use Rattle.rules.specs.Problem.{problemIn};
 ghost use Rattle.prepare.specs.declared.Prepared.the-variants.{Done};
-ghost use Rattle.iterate.specs.declared.Iterated.the-variants.{Ran};
-ghost use Rattle.solver.specs.Solve.{Lent, AtZero, RanIn};
+ghost use Rattle.iterate.specs.declared.Iterated.the-variants.{Made};
+ghost use Rattle.solver.specs.Solve.{Lent, AtZero, answerBy, RanIn};
 
 // The whole run, with its six vectors at zero.
 pub(crate) fn run_in(
@@ -41,6 +43,7 @@ pub(crate) fn run_in(
     linalg::clear(cone_work);
     let prepared = prepare::prepare(par, shape, c, a, b, words, x, y, dp_tau, dp_sigma);
     let norms = norms_of(prepared);
+    let given = par.max_iter as u32;
     let ran = iterate::iterate(
         par,
         shape,
@@ -49,6 +52,8 @@ pub(crate) fn run_in(
         b,
         words,
         norms,
+        0,
+        given,
         x,
         y,
         dp_tau,
@@ -88,12 +93,24 @@ fn norms_of(prepared: Prepared) -> Norms
     }
 }
 
-// The answer, of steps that were taken.
+// The answer, of steps that were taken: what the last one said, with their number and their rotations.
 fn answer_of(ran: Iterated) -> Answer
-    ensures { λ r. ⌜ ((answer : Answer) → ran ≡ Ran answer → r ≡ answer) ⌝ }
+    ensures { λ r. ⌜ ((said : Verdict) (k q : ℕ) → ran ≡ Made said k q → r ≡ answerBy said k q) ⌝ }
 {
     match ran {
-        Iterated::Ran(answer) => answer,
+        Iterated::Made(v, k, q) => match v {
+            Verdict::Ends(e) => Answer {
+                ending: e,
+                steps: k,
+                rotations: q,
+            },
+            // with all of the allowance a run always ends
+            Verdict::GoesOn => Answer {
+                ending: Ending::ConeFailure(0),
+                steps: k,
+                rotations: q,
+            },
+        },
         // the sizes always fit here
         Iterated::No => Answer {
             ending: Ending::ConeFailure(0),

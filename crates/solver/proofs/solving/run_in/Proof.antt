@@ -17,6 +17,9 @@ prepare-requires c κs = search needs
 norms-of-requires : tie.Need-norms-of-requires
 norms-of-requires c κs = search needs
 
+cast-given : tie.Need-cast-given
+cast-given c = omega (arith, c .before .before .before .before .before .before .before .before .before .before .before .before .before .before .before .before .before .before .before .before .before .before .before .before .before .before .before .before .before .before .before .pre .0 .steps)
+
 iterate-requires : tie.Need-iterate-requires
 iterate-requires c κs = search needs
 
@@ -28,25 +31,25 @@ settle-requires c κs = search needs
 
 same-length : tie.Need-same-length
 same-length c =
-    let before = c .before .before .before .before .before .before .before .before .before .before .before .before .before .before .before .before .before .before .before .before .before .before .before .before .before .before .before .before .before .before .before .before .before .before .before .before .before .before .before .before .before .before .before .before .before .prepare in
+    let before = c .before .before .before .before .before .before .before .before .before .before .before .before .before .before .before .before .before .before .before .before .before .before .before .before .before .before .before .before .before .before .before .before .before .before .before .before .before .before .before .before .before .before .before .before .before .before .prepare in
     let steps = c .before .before .before .before .before .before .before .before .before .before .before .before .before .before .before .before .before .before .before .before .before .before .before .before .before .before .before .before .iterate in
     let after = c .before .before .before .before .before .before .settle in
     omega (arith, before .kept, steps .kept, after .kept)
 
 same-length-2 : tie.Need-same-length-2
 same-length-2 c =
-    let before = c .before .before .before .before .before .before .before .before .before .before .before .before .before .before .before .before .before .before .before .before .before .before .before .before .before .before .before .before .before .before .before .before .before .before .before .before .before .before .before .before .before .before .before .before .before .prepare in
+    let before = c .before .before .before .before .before .before .before .before .before .before .before .before .before .before .before .before .before .before .before .before .before .before .before .before .before .before .before .before .before .before .before .before .before .before .before .before .before .before .before .before .before .before .before .before .before .before .prepare in
     let steps = c .before .before .before .before .before .before .before .before .before .before .before .before .before .before .before .before .before .before .before .before .before .before .before .before .before .before .before .before .iterate in
     omega (arith, before .kept, steps .kept)
 
 same-length-3 : tie.Need-same-length-3
 same-length-3 c =
-    let before = c .before .before .before .before .before .before .before .before .before .before .before .before .before .before .before .before .before .before .before .before .before .before .before .before .before .before .before .before .before .before .before .before .before .before .before .before .before .before .before .before .before .before .before .before .before .prepare in
+    let before = c .before .before .before .before .before .before .before .before .before .before .before .before .before .before .before .before .before .before .before .before .before .before .before .before .before .before .before .before .before .before .before .before .before .before .before .before .before .before .before .before .before .before .before .before .before .before .prepare in
     omega (arith, before .kept)
 
 same-length-4 : tie.Need-same-length-4
 same-length-4 c =
-    let before = c .before .before .before .before .before .before .before .before .before .before .before .before .before .before .before .before .before .before .before .before .before .before .before .before .before .before .before .before .before .before .before .before .before .before .before .before .before .before .before .before .before .before .before .before .before .prepare in
+    let before = c .before .before .before .before .before .before .before .before .before .before .before .before .before .before .before .before .before .before .before .before .before .before .before .before .before .before .before .before .before .before .before .before .before .before .before .before .before .before .before .before .before .before .before .before .before .before .prepare in
     omega (arith, before .kept)
 
 same-length-5 : tie.Need-same-length-5
@@ -66,24 +69,24 @@ same-length-7 c =
 
 same-length-8 : tie.Need-same-length-8
 same-length-8 c =
-    let cleared = c .before .before .before .before .before .before .before .before .before .before .before .before .before .before .before .before .before .before .before .before .before .before .before .before .before .before .before .before .before .before .before .before .before .before .before .before .before .before .before .before .before .before .before .before .before .before .before .before .before .before .before .before .clear in
+    let cleared = c .before .before .before .before .before .before .before .before .before .before .before .before .before .before .before .before .before .before .before .before .before .before .before .before .before .before .before .before .before .before .before .before .before .before .before .before .before .before .before .before .before .before .before .before .before .before .before .before .before .before .before .before .before .clear in
     let steps = c .before .before .before .before .before .before .before .before .before .before .before .before .before .before .before .before .before .before .before .before .before .before .before .before .before .before .before .before .iterate in
     let after = c .before .before .before .before .before .before .settle in
     omega (arith, cleared .kept, steps .kept, after .kept)
 
 returns : tie.Need-returns
 returns c =
-    let start = c .before .before .before .before .before .before .before .before .before .before .before .before .before .before .before .before .before .before .before .before .before .before .before .before .before .before .before .before .before .before .before .before .before .before .before .before .before .before .before .before .before .before .before .before .before .before .before .before .before .before .before .before .before .before .before .before .before .before .before .before .before .before .before .before .before .before in
-    let cleared = c .before .before .before .before .before .before .before .before .before .before .before .before .before .before .before .before .before .before .before .before .before .before .before .before .before .before .before .before .before .before .before .before .before .before .before .before .before .before .before .before .before .before .before .before .before .before .before .before .before .before .before .before .clear in
-    let before = c .before .before .before .before .before .before .before .before .before .before .before .before .before .before .before .before .before .before .before .before .before .before .before .before .before .before .before .before .before .before .before .before .before .before .before .before .before .before .before .before .before .before .before .before .before .prepare in
+    let start = c .before .before .before .before .before .before .before .before .before .before .before .before .before .before .before .before .before .before .before .before .before .before .before .before .before .before .before .before .before .before .before .before .before .before .before .before .before .before .before .before .before .before .before .before .before .before .before .before .before .before .before .before .before .before .before .before .before .before .before .before .before .before .before .before .before .before .before in
+    let cleared = c .before .before .before .before .before .before .before .before .before .before .before .before .before .before .before .before .before .before .before .before .before .before .before .before .before .before .before .before .before .before .before .before .before .before .before .before .before .before .before .before .before .before .before .before .before .before .before .before .before .before .before .before .before .clear in
+    let before = c .before .before .before .before .before .before .before .before .before .before .before .before .before .before .before .before .before .before .before .before .before .before .before .before .before .before .before .before .before .before .before .before .before .before .before .before .before .before .before .before .before .before .before .before .before .before .prepare in
     let steps = c .before .before .before .before .before .before .before .before .before .before .before .before .before .before .before .before .before .before .before .before .before .before .before .before .before .before .before .before .iterate in
     let lent = start .pre .0 in
     let z = start .pre .1 in
     let r = lent .ready in
     let q = prepared-where-fits (before .ensures) (r .operators) (covers r) (zero-x z) (zero-y z) (zero-tau z) (zero-sigma z) in
-    let ran = ran-where-fits (steps .ensures) (lent .steps) (ready-to-step z q lent (cleared .ensures)) in
-    let whole = whole-run z q lent (cleared .ensures) (c .before .before .before .before .before .before .before .before .before .before .before .before .before .before .before .before .before .before .before .before .before .before .before .before .before .before .before .before .before .before .before .before .before .before .before .before .norms-of .ensures _ (q .answer-is)) ran in
-    ran-in whole (c .before .before .before .before .before .before .before .before .before .before .before .before .before .before .before .before .before .answer-of .ensures _ (whole .answer-is)) (omega (arith, lent .cone-long, cleared .kept, steps .kept)) (settled-if-fitting
+    let ran = ran-where-fits (steps .ensures) (ready-to-step z q lent (cleared .ensures)) in
+    let whole = whole-run z q lent (cleared .ensures) (c .before .before .before .before .before .before .before .before .before .before .before .before .before .before .before .before .before .before .before .before .before .before .before .before .before .before .before .before .before .before .before .before .before .before .before .before .before .norms-of .ensures _ (q .answer-is)) in
+    ran-in whole ran (c .before .before .before .before .before .before .before .before .before .before .before .before .before .before .before .before .before .answer-of .ensures _ _ _ (ran .answer-is)) (omega (arith, lent .cone-long, cleared .kept, steps .kept)) (settled-if-fitting
     (record {
       m-within = r .operators .m-within;
       n-within = r .operators .n-within;
@@ -104,6 +107,7 @@ run-in-spec =
     clear-requires
     prepare-requires
     norms-of-requires
+    cast-given
     iterate-requires
     answer-of-requires
     settle-requires

@@ -1,4 +1,4 @@
--- Of a block that a word can say, the reader answers its places and its cone work.
+-- Of a block that a word can say, its places and its cone work are answered.
 use Prim.Native.Nat.{_≤_}
 use mathlib.Core.Path.{_≡_}
 use borrow.Author.Tests.{le-leb}

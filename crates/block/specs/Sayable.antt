@@ -1,4 +1,4 @@
--- What the reader answers of any block, also of one that no cone word says: document 01 gives a word 13 bits of size, 8191 at most.
+-- What is answered of any block, also of one that no cone word says: document 01 gives a word 13 bits of size, 8191 at most.
 use Prim.Native.Nat.{ℕ}
 use mathlib.Core.Bool.{Bool, cond}
 use lib.Dec.{leb}

@@ -47,6 +47,7 @@ pub fn proj(par: SolverParam, dual: bool, cone: Cone, x: &mut [f64], work: &mut 
             proj_rpos(x);
             Projection::Done(0)
         }
+        // the next two refuse no block that fits
         Cone::SOC(_) => {
             proj_soc(x);
             Projection::Done(0)

@@ -1,9 +1,14 @@
-// The projections of a block onto the second-order cone and onto the rotated one: each for every length.
+// The projections of a block onto the second-order cone and onto the rotated one. Each answers a plain no, and changes
+// nothing, where there are more places than a block may have.
 use root::root_two;
+use rules::LIMIT;
 ghost use Prim.Native.Nat.{_<_};
 ghost use mathlib.Core.Path.{_≡_};
 ghost use mathlib.Core.Bool.{true};
+ghost use lib.Dec.{leb};
 ghost use lib.ListN.{length, set};
+ghost use Rattle.rules.specs.Limits.{limit};
+ghost use Rattle.rules.specs.Outcome.{Outcome};
 ghost use Rattle.rules.specs.Projections.{projSOC, reflected, projRotSOC};
 
 // By the head and the norm of the tail. It tells whether the point lies inside, and stays.
@@ -29,11 +34,15 @@ fn proj_inside(x: &mut [f64]) -> bool
     false
 }
 
-// The second-order cone.
-pub fn proj_soc(x: &mut [f64])
-    ensures { λ _. ⌜ now (x .exit) ≡ projSOC (now (x .entry)) ⌝ }
+// The second-order cone. Where there are more places than a block may have, it answers no and changes nothing.
+pub fn proj_soc(x: &mut [f64]) -> bool
+    ensures { λ r. ⌜ Outcome (leb (length (now (x .entry))) limit) (projSOC (now (x .entry))) (now (x .entry)) r (now (x .exit)) ⌝ }
 {
+    if x.len() > LIMIT {
+        return false;
+    }
     proj_inside(x);
+    true
 }
 
 // The first two become a and b.
@@ -74,8 +83,8 @@ fn proj_reflected(x: &mut [f64])
     }
 }
 
-// The rotated second-order cone: a block of one place is nonnegative, and one of none has nothing to do.
-pub fn proj_rotsoc(x: &mut [f64])
+// A block of one place is nonnegative, and one of none has nothing to do.
+fn proj_rotated(x: &mut [f64])
     ensures { λ _. ⌜ now (x .exit) ≡ projRotSOC (now (x .entry)) ⌝ }
 {
     if x.len() == 1 {
@@ -85,4 +94,15 @@ pub fn proj_rotsoc(x: &mut [f64])
             proj_reflected(x);
         }
     }
+}
+
+// The rotated second-order cone. Where there are more places than a block may have, it answers no and changes nothing.
+pub fn proj_rotsoc(x: &mut [f64]) -> bool
+    ensures { λ r. ⌜ Outcome (leb (length (now (x .entry))) limit) (projRotSOC (now (x .entry))) (now (x .entry)) r (now (x .exit)) ⌝ }
+{
+    if LIMIT < x.len() {
+        return false;
+    }
+    proj_rotated(x);
+    true
 }

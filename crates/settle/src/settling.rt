@@ -13,9 +13,10 @@ ghost use Rattle.rules.specs.Problem.{workLength};
 ghost use Rattle.rules.specs.Prepare.{zeros};
 ghost use Rattle.settle.specs.Settle.{settleLengthsFit, Fitting, Settled, SettleOutcome};
 
-// A run's vectors come into work, with x and y times 1/tau where the ending asks for it; after a cone's failure
-// the required part of work, and all of cone work, become +0. Where a length or a size doesn't fit, it answers
-// no and changes nothing.
+// A run's vectors come into work. Where the ending asks for it, the solution's x and y, the first n + m places of x, are
+// first multiplied by 1/tau, in x itself. After a cone's failure x is kept, and the required part of work, and all of cone
+// work, become +0. An ending that is a refusal, which no run ends by, is laid out unscaled. Where a length or a size
+// doesn't fit, it answers no and changes nothing.
 pub fn settle(
     rows: Rows,
     cols: Cols,

@@ -1,7 +1,7 @@
 -- A run that starts in vectors at zero and a cone work that was cleared is the rule's run.
 use Prim.Native.Nat.{ℕ}
 use native.Mathlib.Omega.{arith}
-use mathlib.Core.Path.{_≡_, refl, sym, _∙_}
+use mathlib.Core.Path.{_≡_, refl, _∙_}
 use mathlib.Core.Bool.{Bool, true, false, cond}
 use mathlib.Core.List.{List, _++_}
 use borrow.Author.Tests.{eq-eqb}
@@ -12,7 +12,6 @@ use Rattle.rules.specs.Arithmetic.{+0}
 use Rattle.rules.specs.Blocks.{hasBadWord, blocksOf, totalPlaces, isBadCone}
 use Rattle.rules.specs.Product.{coneWork}
 use Rattle.rules.specs.Problem.{Problem, embed, blocks, lengthX, lengthY, workLength}
-use Rattle.rules.specs.Step.{State}
 use Rattle.rules.specs.declared.Ending.{Ending}
 use Rattle.rules.specs.declared.Ending.the-variants.{ConeFailure}
 use Rattle.rules.specs.declared.Verdict.{Verdict}

@@ -18,22 +18,25 @@ use Rattle.rules.specs.declared.Verdict.{Verdict}
 use Rattle.rules.specs.declared.Verdict.the-variants.{GoesOn, Ends}
 use Rattle.rules.specs.declared.Norms.{Norms}
 use Rattle.rules.specs.declared.Shape.{Shape}
+use Rattle.rules.specs.declared.SolverParam.{SolverParam}
 use Rattle.rules.specs.Prepare.{norms, prepared, preparedNorms, zeros}
 use Rattle.rules.specs.Run.{Piece, endedBy, run, laidOut, isConeFailure}
 use Rattle.rules.proofs.Run.{run-is}
 use Rattle.rules.proofs.Lengths.{prepared-sized}
 use Rattle.shape.specs.Fitting.{LikeX, LikeY}
-use Rattle.rules.specs.Problem.{shapeOf}
+use Rattle.rules.specs.Problem.{problemIn, shapeOf}
 use Rattle.precond.specs.Precond.{Covers}
 use Rattle.prepare.specs.declared.Prepared.{Prepared}
 use Rattle.prepare.specs.declared.Prepared.the-variants.{Done, No}
-use Rattle.prepare.proofs.Outcomes.{PreparedBy}
-use Rattle.step.specs.Update.{stateOf, StepReady}
+use Rattle.prepare.specs.Prepare.{PreparedOutcome}
+use Rattle.prepare.proofs.Outcomes.{PreparedBy, prepared-where-fits}
+use Rattle.step.specs.Update.{stateOf, stepFits, StepReady}
 use Rattle.iterate.specs.declared.Iterated.{Iterated}
 use Rattle.iterate.specs.declared.Iterated.the-variants.{Made, No as NoRun}
-use Rattle.iterate.specs.Iterate.{pieceOf}
-use Rattle.iterate.proofs.Outcomes.{RanBy}
-use Rattle.settle.specs.Settle.{Settled}
+use Rattle.iterate.specs.Iterate.{pieceOf, IterateOutcome}
+use Rattle.iterate.proofs.Outcomes.{RanBy, ran-where-fits}
+use Rattle.settle.specs.Settle.{Settled, SettleOutcome}
+use Rattle.settle.proofs.Settled.{settled-if-fitting}
 use Rattle.settle.proofs.Parted.{final-finished}
 use Rattle.solver.specs.Solve.{Ready, Lent, AtZero, answerOf, answerBy, RanIn}
 
@@ -44,30 +47,30 @@ good-list words m readable places = rw (readable, eq-eqb (totalPlaces (blocksOf 
 -- ---- the six vectors at zero
 
 module _ {shape : Shape} {x y dpTau dpSigma rx tx : List Float} (z : AtZero shape x y dpTau dpSigma rx tx) where
-  pub zero-x : LikeX shape x
+  zero-x : LikeX shape x
   zero-x = record { is = rw (z .x-zero) (length-replicate (lengthX (shape .rows .0) (shape .cols .0)) +0) }
 
-  pub zero-y : LikeY shape y
+  zero-y : LikeY shape y
   zero-y = record { is = rw (z .y-zero) (length-replicate (lengthY (shape .rows .0) (shape .cols .0)) +0) }
 
-  pub zero-tau : LikeX shape dpTau
+  zero-tau : LikeX shape dpTau
   zero-tau = record { is = rw (z .tau-zero) (length-replicate (lengthX (shape .rows .0) (shape .cols .0)) +0) }
 
-  pub zero-sigma : LikeY shape dpSigma
+  zero-sigma : LikeY shape dpSigma
   zero-sigma = record { is = rw (z .sigma-zero) (length-replicate (lengthY (shape .rows .0) (shape .cols .0)) +0) }
 
-  pub zero-rx : LikeX shape rx
+  zero-rx : LikeX shape rx
   zero-rx = record { is = rw (z .rx-zero) (length-replicate (lengthX (shape .rows .0) (shape .cols .0)) +0) }
 
-  pub zero-tx : LikeX shape tx
+  zero-tx : LikeX shape tx
   zero-tx = record { is = rw (z .tx-zero) (length-replicate (lengthX (shape .rows .0) (shape .cols .0)) +0) }
 
-pub cleared-long : {p : Problem} {work cone cone' : List Float} → Lent p work cone → cone' ≡ zeros (length cone) → length cone' ≡ coneWork (blocks p)
+cleared-long : {p : Problem} {work cone cone' : List Float} → Lent p work cone → cone' ≡ zeros (length cone) → length cone' ≡ coneWork (blocks p)
 cleared-long {p} {work} {cone} {cone'} l e = rw e (length-replicate (length cone) +0) ∙ l .cone-long
 
 -- ---- before the first step
 
-pub covers : {p : Problem} → Ready p → Covers (shapeOf p) (p .words)
+covers : {p : Problem} → Ready p → Covers (shapeOf p) (p .words)
 covers {p} r = record { is = good }
   where
     good : isBadCone (p .words) (p .m) ≡ false
@@ -81,19 +84,19 @@ module _ {p : Problem} {x y dpTau dpSigma rx tx : List Float} {answer : Prepared
   state-start : stateOf x' y' dpTau' dpSigma' rx tx (zeros (coneWork (blocks p))) ≡ prepared p
   state-start = prepared-is z q (zeros (coneWork (blocks p))) refl
 
-  pub prepared-x : LikeX (shapeOf p) x'
+  prepared-x : LikeX (shapeOf p) x'
   prepared-x = record { is = (rw (← state-start) at (prepared-sized p)) .x }
 
-  pub prepared-y : LikeY (shapeOf p) y'
+  prepared-y : LikeY (shapeOf p) y'
   prepared-y = record { is = (rw (← state-start) at (prepared-sized p)) .y }
 
-  pub prepared-tau : LikeX (shapeOf p) dpTau'
+  prepared-tau : LikeX (shapeOf p) dpTau'
   prepared-tau = record { is = (rw (← state-start) at (prepared-sized p)) .dpTau }
 
-  pub prepared-sigma : LikeY (shapeOf p) dpSigma'
+  prepared-sigma : LikeY (shapeOf p) dpSigma'
   prepared-sigma = record { is = (rw (← state-start) at (prepared-sized p)) .dpSigma }
 
-  pub ready-to-step : {work cone cone' : List Float} → Lent p work cone → cone' ≡ zeros (length cone) → StepReady (p .par) (shapeOf p) (p .c) (p .a) (p .b) (p .words) (stateOf x' y' dpTau' dpSigma' rx tx cone')
+  ready-to-step : {work cone cone' : List Float} → Lent p work cone → cone' ≡ zeros (length cone) → StepReady (p .par) (shapeOf p) (p .c) (p .a) (p .b) (p .words) (stateOf x' y' dpTau' dpSigma' rx tx cone')
   ready-to-step l e =
       let r = l .ready in
       record {
@@ -108,7 +111,7 @@ module _ {p : Problem} {x y dpTau dpSigma rx tx : List Float} {answer : Prepared
       }
 
   -- the piece from there, with all of the allowance, is the whole run
-  pub whole-run : {work cone cone' : List Float} {ns : Norms} → Lent p work cone → cone' ≡ zeros (length cone) → ns ≡ norms (embed p) x → run p ≡ endedBy (pieceOf p ns 0 (p .par .«max_iter») (stateOf x' y' dpTau' dpSigma' rx tx cone'))
+  whole-run : {work cone cone' : List Float} {ns : Norms} → Lent p work cone → cone' ≡ zeros (length cone) → ns ≡ norms (embed p) x → run p ≡ endedBy (pieceOf p ns 0 (p .par .«max_iter») (stateOf x' y' dpTau' dpSigma' rx tx cone'))
   whole-run {cone' = cone'} {ns} l e n =
       let from : stateOf x' y' dpTau' dpSigma' rx tx cone' ≡ prepared p = prepared-is z q cone' (e ∙ rw (l .cone-long)) in
       let start : ns ≡ preparedNorms p = n ∙ rw (z .x-zero) in
@@ -117,7 +120,7 @@ module _ {p : Problem} {x y dpTau dpSigma rx tx : List Float} {answer : Prepared
 -- ---- after the last step
 
 module _ {p : Problem} {e : Piece} {ran : Iterated} {answer : Answer} {x y dpTau dpSigma rx tx cone work x' work' cone' : List Float} (whole : run p ≡ endedBy e) (i : RanBy e ran (stateOf x y dpTau dpSigma rx tx cone)) (same : answer ≡ answerOf (endedBy e)) (n : length cone ≡ coneWork (blocks p)) (b : Settled (p .m) (p .n) x y dpTau dpSigma rx tx work (answer .ending) cone x' work' cone') where
-  pub ran-in : RanIn p work answer work' cone'
+  ran-in : RanIn p work answer work' cone'
   ran-in = go (isConeFailure (run p .ending)) refl
     where
       answered-is : answer ≡ answerOf (run p)
@@ -137,6 +140,36 @@ module _ {p : Problem} {e : Piece} {ran : Iterated} {answer : Answer} {x y dpTau
       go false f =
           let s : stateOf x y dpTau dpSigma rx tx cone ≡ run p .state = rw whole (i .state-is (rw whole at f)) in
           record { answered = answered-is; work-is = rw (f, ← s) (rw f at w'); cone-is = rw (f, ← s) (rw f at k') }
+
+-- ---- all of it: cleared, prepared, stepped and settled
+
+module _ {shape : Shape} {c a b : List Float} {words : List ℕ} {par : SolverParam} {x y tau sigma rx tx : List Float} {prepared-as : Prepared} {x₁ y₁ tau₁ sigma₁ work cone cone₁ : List Float} {ns : Norms} {ran : Iterated} {x₂ y₂ rx₂ tx₂ cone₂ : List Float} {answer : Answer} {fits : Bool} {x₃ work' cone' : List Float} where
+  pub run-whole : Lent (problemIn shape c a b words par) work cone → AtZero shape x y tau sigma rx tx
+      → cone₁ ≡ zeros (length cone)
+      → PreparedOutcome (problemIn shape c a b words par) x y tau sigma prepared-as x₁ y₁ tau₁ sigma₁ → ((n : Norms) → prepared-as ≡ Done n → ns ≡ n)
+      → IterateOutcome (stepFits par shape c a b words (stateOf x₁ y₁ tau₁ sigma₁ rx tx cone₁)) (problemIn shape c a b words par) ns 0 (par .«max_iter») (stateOf x₁ y₁ tau₁ sigma₁ rx tx cone₁) ran (stateOf x₂ y₂ tau₁ sigma₁ rx₂ tx₂ cone₂)
+      → ((said : Verdict) (k q : ℕ) → ran ≡ Made said k q → answer ≡ answerBy said k q)
+      → SettleOutcome (shape .rows .0) (shape .cols .0) x₂ y₂ tau₁ sigma₁ rx₂ tx₂ work (answer .ending) cone₂ fits x₃ work' cone'
+      → length x₂ ≡ length x₁ → length y₂ ≡ length y₁ → length rx₂ ≡ length rx → length tx₂ ≡ length tx → length cone₂ ≡ length cone₁
+      → RanIn (problemIn shape c a b words par) work answer work' cone'
+  run-whole lent z cleared prepares norms-are steps answers settles kept-x kept-y kept-rx kept-tx kept-cone =
+      let r = lent .ready in
+      let q = prepared-where-fits prepares (r .operators) (covers r) (zero-x z) (zero-y z) (zero-tau z) (zero-sigma z) in
+      let i = ran-where-fits steps (ready-to-step z q lent cleared) in
+      let whole = whole-run z q lent cleared (norms-are _ (q .answer-is)) in
+      ran-in whole i (answers _ _ _ (i .answer-is)) (kept-cone ∙ cleared-long lent cleared) (settled-if-fitting
+      (record {
+        m-within = r .operators .m-within;
+        n-within = r .operators .n-within;
+        x-long = kept-x ∙ prepared-x z q .is;
+        y-long = kept-y ∙ prepared-y z q .is;
+        tau-long = prepared-tau z q .is;
+        sigma-long = prepared-sigma z q .is;
+        rx-long = kept-rx ∙ zero-rx z .is;
+        tx-long = kept-tx ∙ zero-tx z .is;
+        work-long = lent .work-long;
+      })
+      settles)
 
 -- ---- what an answer holds
 

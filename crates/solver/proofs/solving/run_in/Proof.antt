@@ -1,10 +1,7 @@
 -- `solver::solving::run_in` meets its contract.
 use native.Mathlib.Omega.{arith}
 use borrow.Author.Needs.{needs}
-use Rattle.solver.proofs.Whole.{covers, zero-x, zero-y, zero-tau, zero-sigma, zero-rx, zero-tx, prepared-x, prepared-y, prepared-tau, prepared-sigma, ready-to-step, whole-run, ran-in}
-use Rattle.prepare.proofs.Outcomes.{prepared-where-fits}
-use Rattle.iterate.proofs.Outcomes.{ran-where-fits}
-use Rattle.settle.proofs.Settled.{settled-if-fitting}
+use Rattle.solver.proofs.Whole.{run-whole}
 use Rattle.solver.proofs.solving.run_in.Statement.{statement}
 use Rattle.solver.proofs.solving.run_in.Tie as tie
 
@@ -77,28 +74,21 @@ same-length-8 c =
 returns : tie.Need-returns
 returns c =
     let start = c .before .before .before .before .before .before .before .before .before .before .before .before .before .before .before .before .before .before .before .before .before .before .before .before .before .before .before .before .before .before .before .before .before .before .before .before .before .before .before .before .before .before .before .before .before .before .before .before .before .before .before .before .before .before .before .before .before .before .before .before .before .before .before .before .before .before .before in
-    let cleared = c .before .before .before .before .before .before .before .before .before .before .before .before .before .before .before .before .before .before .before .before .before .before .before .before .before .before .before .before .before .before .before .before .before .before .before .before .before .before .before .before .before .before .before .before .before .before .before .before .before .before .before .before .before .clear in
-    let before = c .before .before .before .before .before .before .before .before .before .before .before .before .before .before .before .before .before .before .before .before .before .before .before .before .before .before .before .before .before .before .before .before .before .before .before .before .before .before .before .before .before .before .before .before .before .before .prepare in
     let steps = c .before .before .before .before .before .before .before .before .before .before .before .before .before .before .before .before .before .before .before .before .before .before .before .before .before .before .before .before .iterate in
-    let lent = start .pre .0 in
-    let z = start .pre .1 in
-    let r = lent .ready in
-    let q = prepared-where-fits (before .ensures) (r .operators) (covers r) (zero-x z) (zero-y z) (zero-tau z) (zero-sigma z) in
-    let ran = ran-where-fits (steps .ensures) (ready-to-step z q lent (cleared .ensures)) in
-    let whole = whole-run z q lent (cleared .ensures) (c .before .before .before .before .before .before .before .before .before .before .before .before .before .before .before .before .before .before .before .before .before .before .before .before .before .before .before .before .before .before .before .before .before .before .before .before .before .norms-of .ensures _ (q .answer-is)) in
-    ran-in whole ran (c .before .before .before .before .before .before .before .before .before .before .before .before .before .before .before .before .before .answer-of .ensures _ _ _ (ran .answer-is)) (omega (arith, lent .cone-long, cleared .kept, steps .kept)) (settled-if-fitting
-    (record {
-      m-within = r .operators .m-within;
-      n-within = r .operators .n-within;
-      x-long = omega (arith, prepared-x z q .is, steps .kept);
-      y-long = omega (arith, prepared-y z q .is, steps .kept);
-      tau-long = prepared-tau z q .is;
-      sigma-long = prepared-sigma z q .is;
-      rx-long = omega (arith, zero-rx z .is, steps .kept);
-      tx-long = omega (arith, zero-tx z .is, steps .kept);
-      work-long = lent .work-long;
-    })
-    (c .before .before .before .before .before .before .settle .ensures))
+    run-whole
+    (start .pre .0)
+    (start .pre .1)
+    (c .before .before .before .before .before .before .before .before .before .before .before .before .before .before .before .before .before .before .before .before .before .before .before .before .before .before .before .before .before .before .before .before .before .before .before .before .before .before .before .before .before .before .before .before .before .before .before .before .before .before .before .before .before .clear .ensures)
+    (c .before .before .before .before .before .before .before .before .before .before .before .before .before .before .before .before .before .before .before .before .before .before .before .before .before .before .before .before .before .before .before .before .before .before .before .before .before .before .before .before .before .before .before .before .before .before .prepare .ensures)
+    (c .before .before .before .before .before .before .before .before .before .before .before .before .before .before .before .before .before .before .before .before .before .before .before .before .before .before .before .before .before .before .before .before .before .before .before .before .before .norms-of .ensures)
+    (steps .ensures)
+    (c .before .before .before .before .before .before .before .before .before .before .before .before .before .before .before .before .before .answer-of .ensures)
+    (c .before .before .before .before .before .before .settle .ensures)
+    (omega (arith, steps .kept))
+    (omega (arith, steps .kept))
+    (omega (arith, steps .kept))
+    (omega (arith, steps .kept))
+    (omega (arith, steps .kept))
 
 pub run-in-spec : {M : Type 1} → statement M
 run-in-spec =

@@ -3,9 +3,7 @@ use native.Mathlib.Omega.{arith}
 use mathlib.Core.Path.{refl}
 use borrow.Author.Needs.{needs}
 use Rattle.step.specs.Update.{stateOf}
-use Rattle.iterate.proofs.Steps.{said-by, nothing-said}
-use Rattle.iterate.proofs.Runs.{running-counts, running-end, running-halts}
-use Rattle.iterate.proofs.Outcomes.{Going, going-start, cones-now, going-more, going-end, going-nowhere}
+use Rattle.iterate.proofs.Outcomes.{Going, going-start, step-counts, step-ends, step-halts, step-more, step-refused}
 use Rattle.iterate.proofs.iterate.Statement.{statement}
 use Rattle.iterate.proofs.iterate.Tie as tie
 
@@ -30,9 +28,8 @@ enum-known-t c = search needs
 
 add-q : tie.Need-add-q Inv-loop μ-loop
 add-q c =
-    let g = c .before .before .before .before .before .before .before .before .before .before .before .before .before .before .before .before .before .before .before .loop .inv in
-    let w = said-by (c .before .before .before .before .before .before .before .before .before .before .before .before .before .whole-step .ensures) (c .before .t .given .1) in
-    omega (arith, running-counts (g .running) (w .1) (cones-now g (w .0)), g .running .within, g .running .rest, g .running .least, c .before .before .before .before .before .before .before .before .before .before .before .before .before .before .before .before .before .before .before .before .before .before .before .before .before .before .before .before .before .before .before .good)
+    let g = c .before .before .before .before .before .before .before .before .before .before .before .before .before .before .before .before .before .before .before .loop .inv .running in
+    omega (arith, step-counts (c .before .before .before .before .before .before .before .before .before .before .before .before .before .before .before .before .before .before .before .loop .inv) (c .before .before .before .before .before .before .before .before .before .before .before .before .before .whole-step .ensures) (c .before .t .given .1), g .within, g .rest, g .least, c .before .before .before .before .before .before .before .before .before .before .before .before .before .before .before .before .before .before .before .before .before .before .before .before .before .before .before .before .before .before .before .good)
 
 enum-known-v : tie.Need-enum-known-v Inv-loop μ-loop
 enum-known-v c = search needs
@@ -53,10 +50,7 @@ same-length-5 : tie.Need-same-length-5 Inv-loop μ-loop
 same-length-5 c = omega (arith, c .before .before .before .before .before .before .before .before .before .before .before .before .before .before .before .before .before .before .before .before .before .before .loop .inv .kept .cone-kept, c .before .before .before .before .before .before .before .before .before .before .before .before .before .before .before .before .whole-step .kept)
 
 returns : tie.Need-returns Inv-loop μ-loop
-returns c =
-    let g = c .before .before .before .before .before .before .before .before .before .before .before .before .before .before .before .before .before .before .before .before .before .before .loop .inv in
-    let w = said-by (c .before .before .before .before .before .before .before .before .before .before .before .before .before .before .before .before .whole-step .ensures) (c .before .before .before .before .t .given .1) in
-    going-end g (w .0) (running-end (g .running) (w .1) _ (c .before .v .given .1))
+returns c = step-ends (c .before .before .before .before .before .before .before .before .before .before .before .before .before .before .before .before .before .before .before .before .before .before .loop .inv) (c .before .before .before .before .before .before .before .before .before .before .before .before .before .before .before .before .whole-step .ensures) (c .before .before .before .before .t .given .1) (c .before .v .given .1)
 
 enum-told : tie.Need-enum-told Inv-loop μ-loop
 enum-told c = search needs
@@ -77,10 +71,7 @@ same-length-10 : tie.Need-same-length-10 Inv-loop μ-loop
 same-length-10 c = omega (arith, c .before .before .before .before .before .before .before .before .before .before .before .before .before .before .before .before .before .before .before .before .before .before .loop .inv .kept .cone-kept, c .before .before .before .before .before .before .before .before .before .before .before .before .before .before .before .before .whole-step .kept)
 
 returns-2 : tie.Need-returns-2 Inv-loop μ-loop
-returns-2 c =
-    let g = c .before .before .before .before .before .before .before .before .before .before .before .before .before .before .before .before .before .before .before .before .before .before .loop .inv in
-    let w = said-by (c .before .before .before .before .before .before .before .before .before .before .before .before .before .before .before .before .whole-step .ensures) (c .before .before .before .before .t .given .1) in
-    going-end g (w .0) (running-halts (g .running) (w .1) (c .before .enum-told .given .1) (c .if1 .taken))
+returns-2 c = step-halts (c .before .before .before .before .before .before .before .before .before .before .before .before .before .before .before .before .before .before .before .before .before .before .loop .inv) (c .before .before .before .before .before .before .before .before .before .before .before .before .before .before .before .before .whole-step .ensures) (c .before .before .before .before .t .given .1) (c .before .enum-told .given .1) (c .if1 .taken)
 
 sub-left : tie.Need-sub-left Inv-loop μ-loop
 sub-left c = search needs
@@ -91,8 +82,7 @@ loop-less c = omega (arith, c .if1 .left)
 loop-again : tie.Need-loop-again Inv-loop μ-loop
 loop-again c =
     let t = c .before .before .before .before .before .before .before .before .before .before .before .before .before .before .before .before .whole-step in
-    let w = said-by (t .ensures) (c .before .before .before .before .t .given .1) in
-    going-more (c .before .before .before .before .before .before .before .before .before .before .before .before .before .before .before .before .before .before .before .before .before .before .loop .inv) (w .0) (w .1) (c .before .enum-told .given .1) (omega (arith, c .if1 .left))
+    step-more (c .before .before .before .before .before .before .before .before .before .before .before .before .before .before .before .before .before .before .before .before .before .before .loop .inv) (t .ensures) (c .before .before .before .before .t .given .1) (c .before .enum-told .given .1) (omega (arith, c .if1 .left))
     (record { x-kept = omega (arith, t .kept); y-kept = omega (arith, t .kept); tau-kept = refl; sigma-kept = refl; rx-kept = omega (arith, t .kept); tx-kept = omega (arith, t .kept); cone-kept = omega (arith, t .kept) })
 
 enum-told-2 : tie.Need-enum-told-2 Inv-loop μ-loop
@@ -114,9 +104,7 @@ same-length-15 : tie.Need-same-length-15 Inv-loop μ-loop
 same-length-15 c = omega (arith, c .before .before .before .before .before .before .before .before .before .before .before .before .before .before .before .before .before .before .loop .inv .kept .cone-kept, c .before .before .before .before .before .before .before .before .before .before .before .before .whole-step .kept)
 
 returns-3 : tie.Need-returns-3 Inv-loop μ-loop
-returns-3 c =
-    let w = nothing-said (c .before .before .before .before .before .before .before .before .before .before .before .before .whole-step .ensures) (c .enum-told2 .given .1) in
-    going-nowhere (c .before .before .before .before .before .before .before .before .before .before .before .before .before .before .before .before .before .before .loop .inv) (w .0) (w .1)
+returns-3 c = step-refused (c .before .before .before .before .before .before .before .before .before .before .before .before .before .before .before .before .before .before .loop .inv) (c .before .before .before .before .before .before .before .before .before .before .before .before .whole-step .ensures) (c .enum-told2 .given .1)
 
 pub iterate-spec : {M : Type 1} → statement M
 iterate-spec =

@@ -1,6 +1,7 @@
 -- `step::move_y` meets its contract.
 use native.Mathlib.Omega.{arith}
 use borrow.Author.Needs.{needs}
+use lib.ListN.{length-set}
 use Rattle.rules.specs.Helpers.{one}
 use Rattle.step.proofs.Moves.{y-moved}
 use Rattle.step.proofs.move_y.Statement.{statement}
@@ -55,10 +56,10 @@ slice-write-y : tie.Need-slice-write-y
 slice-write-y c = omega (arith, c .before .before .before .before .before .before .before .before .before .before .before .before .before .before .before .before .before .before .before .before .before .before .before .before .before .pre .y-like .is, c .before .before .before .before .transform-di .kept)
 
 same-length : tie.Need-same-length
-same-length c = search needs
+same-length c = rw length-set (c .before .before .before .before .transform-di .kept .1 .1 .1 .1 .0)
 
 same-length-2 : tie.Need-same-length-2
-same-length-2 c = search needs
+same-length-2 c = c .before .before .before .before .before .before .before .before .before .before .before .before .before .before .before .add .kept .1 .1 .0
 
 same-length-3 : tie.Need-same-length-3
 same-length-3 c = search needs

@@ -1,11 +1,11 @@
--- `precond::sums::sums_y` meets its contract.
+-- `precond::abs_sums::sums_y` meets its contract.
 use mathlib.Core.Path.{sym, _∙_}
 use Rattle.rules.proofs.Kernels.{rows-ruled}
 use borrow.Author.Needs.{needs}
 use native.Mathlib.Omega.{arith}
 use Rattle.shape.proofs.Fitting.{b-stored}
-use Rattle.precond.proofs.sums.sums_y.Statement.{statement}
-use Rattle.precond.proofs.sums.sums_y.Tie as tie
+use Rattle.precond.proofs.abs_sums.sums_y.Statement.{statement}
+use Rattle.precond.proofs.abs_sums.sums_y.Tie as tie
 
 matrix-of-requires : tie.Need-matrix-of-requires
 matrix-of-requires c κs = search needs

@@ -1,11 +1,11 @@
--- `precond::sums::sums_tau` meets its contract.
+-- `precond::abs_sums::sums_tau` meets its contract.
 use mathlib.Core.Path.{sym, _∙_}
 use Rattle.rules.proofs.Kernels.{cols-ruled}
 use borrow.Author.Needs.{needs}
 use native.Mathlib.Omega.{arith}
 use Rattle.shape.proofs.Fitting.{c-stored, b-stored}
-use Rattle.precond.proofs.sums.sums_tau.Statement.{statement}
-use Rattle.precond.proofs.sums.sums_tau.Tie as tie
+use Rattle.precond.proofs.abs_sums.sums_tau.Statement.{statement}
+use Rattle.precond.proofs.abs_sums.sums_tau.Tie as tie
 
 column-requires : tie.Need-column-requires
 column-requires c κs = search needs

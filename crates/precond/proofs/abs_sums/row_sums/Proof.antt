@@ -1,12 +1,12 @@
--- `precond::sums::row_sums` meets its contract.
+-- `precond::abs_sums::row_sums` meets its contract.
 use mathlib.Core.Path.{_≡_, _∙_}
 use lib.ListN.{length}
 use Rattle.rules.proofs.Parts.{put-3}
 use borrow.Author.Needs.{needs}
 use native.Mathlib.Omega.{arith}
 use Rattle.shape.proofs.Joined.{join-3}
-use Rattle.precond.proofs.sums.row_sums.Statement.{statement}
-use Rattle.precond.proofs.sums.row_sums.Tie as tie
+use Rattle.precond.proofs.abs_sums.row_sums.Statement.{statement}
+use Rattle.precond.proofs.abs_sums.row_sums.Tie as tie
 
 add-nm : tie.Need-add-nm
 add-nm c = search needs

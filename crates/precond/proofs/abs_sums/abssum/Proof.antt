@@ -1,4 +1,4 @@
--- `precond::sums::abssum` meets its contract.
+-- `precond::abs_sums::abssum` meets its contract.
 use mathlib.Core.Path.{_≡_, _∙_}
 use lib.ListN.{length}
 use Rattle.rules.specs.Arithmetic.{+0}
@@ -7,8 +7,8 @@ use Rattle.rules.specs.Problem.{lengthX}
 use Rattle.rules.proofs.KernelLengths.{scaled-length}
 use Rattle.precond.proofs.LikeX.{rows-of-columns}
 use borrow.Author.Needs.{needs}
-use Rattle.precond.proofs.sums.abssum.Statement.{statement}
-use Rattle.precond.proofs.sums.abssum.Tie as tie
+use Rattle.precond.proofs.abs_sums.abssum.Statement.{statement}
+use Rattle.precond.proofs.abs_sums.abssum.Tie as tie
 
 scale-requires : tie.Need-scale-requires
 scale-requires c κs = search needs

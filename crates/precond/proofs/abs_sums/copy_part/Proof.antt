@@ -1,4 +1,4 @@
--- `precond::sums::copy_part` meets its contract.
+-- `precond::abs_sums::copy_part` meets its contract.
 use Prim.Native.Nat.{_+_, _-_}
 use mathlib.Core.Path.{_∙_}
 use Rattle.rules.specs.Step.{part}
@@ -6,8 +6,8 @@ use Rattle.rules.proofs.Kernels.{add-ruled}
 use Rattle.rules.proofs.Parts.{places}
 use borrow.Author.Needs.{needs}
 use native.Mathlib.Omega.{arith}
-use Rattle.precond.proofs.sums.copy_part.Statement.{statement}
-use Rattle.precond.proofs.sums.copy_part.Tie as tie
+use Rattle.precond.proofs.abs_sums.copy_part.Statement.{statement}
+use Rattle.precond.proofs.abs_sums.copy_part.Tie as tie
 
 add-end : tie.Need-add-end
 add-end c = search needs

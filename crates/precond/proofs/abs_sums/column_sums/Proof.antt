@@ -1,4 +1,4 @@
--- `precond::sums::column_sums` meets its contract.
+-- `precond::abs_sums::column_sums` meets its contract.
 use mathlib.Core.Path.{_≡_, _∙_}
 use lib.ListN.{length}
 use Rattle.rules.specs.Helpers.{one}
@@ -7,8 +7,8 @@ use Rattle.rules.proofs.Parts.{from-start, lent-2, lent-3, lent-4, put-4}
 use borrow.Author.Needs.{needs}
 use native.Mathlib.Omega.{arith}
 use Rattle.shape.proofs.Joined.{join-4}
-use Rattle.precond.proofs.sums.column_sums.Statement.{statement}
-use Rattle.precond.proofs.sums.column_sums.Tie as tie
+use Rattle.precond.proofs.abs_sums.column_sums.Statement.{statement}
+use Rattle.precond.proofs.abs_sums.column_sums.Tie as tie
 
 add-nm : tie.Need-add-nm
 add-nm c = search needs

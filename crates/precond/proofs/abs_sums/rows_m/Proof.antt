@@ -1,4 +1,4 @@
--- `precond::sums::rows_m` meets its contract.
+-- `precond::abs_sums::rows_m` meets its contract.
 use Prim.Native.Nat.{_+_}
 use mathlib.Core.Path.{_∙_}
 use Rattle.rules.specs.Helpers.{one}
@@ -8,8 +8,8 @@ use Rattle.rules.proofs.Parts.{places}
 use borrow.Author.Needs.{needs}
 use native.Mathlib.Omega.{arith}
 use Rattle.shape.proofs.Fitting.{long-s}
-use Rattle.precond.proofs.sums.rows_m.Statement.{statement}
-use Rattle.precond.proofs.sums.rows_m.Tie as tie
+use Rattle.precond.proofs.abs_sums.rows_m.Statement.{statement}
+use Rattle.precond.proofs.abs_sums.rows_m.Tie as tie
 
 add-nm : tie.Need-add-nm
 add-nm c = search needs

@@ -1,11 +1,11 @@
--- `precond::sums::sums_x` meets its contract.
+-- `precond::abs_sums::sums_x` meets its contract.
 use mathlib.Core.Path.{sym, _∙_}
 use Rattle.rules.proofs.Kernels.{cols-ruled, rows-ruled}
 use borrow.Author.Needs.{needs}
 use native.Mathlib.Omega.{arith}
 use Rattle.shape.proofs.Fitting.{c-stored}
-use Rattle.precond.proofs.sums.sums_x.Statement.{statement}
-use Rattle.precond.proofs.sums.sums_x.Tie as tie
+use Rattle.precond.proofs.abs_sums.sums_x.Statement.{statement}
+use Rattle.precond.proofs.abs_sums.sums_x.Tie as tie
 
 matrix-of-requires : tie.Need-matrix-of-requires
 matrix-of-requires c κs = search needs

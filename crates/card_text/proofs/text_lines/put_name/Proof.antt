@@ -1,9 +1,9 @@
--- `card_text::lines::put_name` meets its contract: each ending has its name.
+-- `card_text::text_lines::put_name` meets its contract: each ending has its name.
 use borrow.Author.Needs.{needs}
 use native.Mathlib.Omega.{arith}
 use mathlib.Core.Path.{refl}
-use Rattle.card_text.proofs.lines.put_name.Statement.{statement}
-use Rattle.card_text.proofs.lines.put_name.Tie as tie
+use Rattle.card_text.proofs.text_lines.put_name.Statement.{statement}
+use Rattle.card_text.proofs.text_lines.put_name.Tie as tie
 
 enum-told : tie.Need-enum-told
 enum-told c = search needs

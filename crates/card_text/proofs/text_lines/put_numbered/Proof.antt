@@ -1,9 +1,9 @@
--- `card_text::lines::put_numbered` meets its contract.
+-- `card_text::text_lines::put_numbered` meets its contract.
 use borrow.Author.Needs.{needs}
 use native.Mathlib.Omega.{arith}
 use Rattle.card_text.proofs.Texts.{numbered-put}
-use Rattle.card_text.proofs.lines.put_numbered.Statement.{statement}
-use Rattle.card_text.proofs.lines.put_numbered.Tie as tie
+use Rattle.card_text.proofs.text_lines.put_numbered.Statement.{statement}
+use Rattle.card_text.proofs.text_lines.put_numbered.Tie as tie
 
 put-requires : tie.Need-put-requires
 put-requires c κs = search needs

@@ -1,10 +1,10 @@
--- `card_text::lines::put_ended` meets its contract.
+-- `card_text::text_lines::put_ended` meets its contract.
 use borrow.Author.Needs.{needs}
 use native.Mathlib.Omega.{arith}
 use Rattle.card_text.specs.Growing.{nameOf}
 use Rattle.card_text.proofs.Texts.{ended-put}
-use Rattle.card_text.proofs.lines.put_ended.Statement.{statement}
-use Rattle.card_text.proofs.lines.put_ended.Tie as tie
+use Rattle.card_text.proofs.text_lines.put_ended.Statement.{statement}
+use Rattle.card_text.proofs.text_lines.put_ended.Tie as tie
 
 put-first-requires : tie.Need-put-first-requires
 put-first-requires c κs = search needs

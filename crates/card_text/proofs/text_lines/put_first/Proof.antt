@@ -1,10 +1,10 @@
--- `card_text::lines::put_first` meets its contract.
+-- `card_text::text_lines::put_first` meets its contract.
 use borrow.Author.Needs.{needs}
 use native.Mathlib.Omega.{arith}
 use Rattle.card_text.specs.Growing.{nameOf}
 use Rattle.card_text.proofs.Texts.{first-put}
-use Rattle.card_text.proofs.lines.put_first.Statement.{statement}
-use Rattle.card_text.proofs.lines.put_first.Tie as tie
+use Rattle.card_text.proofs.text_lines.put_first.Statement.{statement}
+use Rattle.card_text.proofs.text_lines.put_first.Tie as tie
 
 put-name-requires : tie.Need-put-name-requires
 put-name-requires c κs = search needs

@@ -71,11 +71,11 @@ fn line_sum(transpose: bool, rows: Rows, cols: Cols, mat: &[f64], k: usize) -> f
         if mat.len() == 0 {
             return 0.0;
         }
-        return linalg::abssum(&mat[k..], n_row);
+        return sums::abssum(&mat[k..], n_row);
     }
     let start = k * n_row;
     let end = start + n_row;
-    linalg::abssum(&mat[start..end], 1)
+    sums::abssum(&mat[start..end], 1)
 }
 
 // The sums of the columns of a packed matrix, which are those of its rows.
@@ -108,7 +108,7 @@ fn add_column(mat: &[f64], c: usize, y: &mut [f64])
 {
     let start = matrix::triangle(c);
     let end = start + c + 1;
-    y[c] = linalg::abssum(&mat[start..end], 1) + y[c];
+    y[c] = sums::abssum(&mat[start..end], 1) + y[c];
     for i in 0..c {
         y[i] = y[i] + float::magnitude(mat[start + i]);
     }

@@ -12,7 +12,7 @@ use lib.Seq.{getD-drop, getD-take}
 use borrow.Author.Tests.{ltb-true, ltb-false, ne-eqb}
 use Rattle.card.specs.Card.{bitsOfBytes, valueFrom, value, allZero}
 use Rattle.card.specs.Fields.{fieldAt, fieldsAt}
-use Rattle.card.proofs.Bits.{bits-length, byte-bit}
+use Rattle.bits.proofs.Bits.{bits-length, byte-bit}
 
 abbrev pub Binary : List ℕ → Type 0
 Binary bits = (i : ℕ) → getD bits i 0 < 2

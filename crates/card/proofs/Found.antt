@@ -13,7 +13,8 @@ use Rattle.card.specs.Card.{bitsOfBytes, allZero, Card, Reading, fault, 
 use Rattle.card.specs.Fields.{fieldAt, fieldsAt, bitCount, cardAt, restAt}
 use Rattle.card.specs.Outcome.{answerOf, wordsAfter, numbersAfter}
 use Rattle.card.specs.declared.CardRead.the-variants.{Read}
-use Rattle.card.proofs.Bits.{bits-length, fields-length}
+use Rattle.bits.proofs.Bits.{bits-length}
+use Rattle.card.proofs.Bits.{fields-length}
 use Rattle.card.proofs.Binary.{bytes-binary, field-below}
 use Rattle.card.proofs.Places.{card-by-places}
 use Rattle.card.proofs.Rest.{answer-is}

@@ -7,7 +7,7 @@ use lib.ListN.{length}
 use borrow.Author.Tests.{le-leb, lt-leb, eq-eqb, ne-eqb}
 use Rattle.card.specs.Card.{bitsOfBytes, fault, readCard}
 use Rattle.card.specs.Fields.{fieldAt, restAt}
-use Rattle.card.proofs.Bits.{bits-length}
+use Rattle.bits.proofs.Bits.{bits-length}
 use Rattle.card.proofs.Places.{card-by-places}
 
 module _ (bytes : List ℕ) where

@@ -1,21 +1,12 @@
 -- Document 02, (i), "A problem file for the bench": one card, and what it says.
-use Prim.Native.Nat.{ℕ, zero, suc, _+_, _*_, _/_, _%_, _^_, min}
+use Prim.Native.Nat.{ℕ, zero, suc, _+_, _*_, _/_, _%_, min}
 use mathlib.Core.Bool.{Bool, true, false, cond}
 use mathlib.Core.List.{List, [], _∷_, _++_}
 use lib.Dec.{leb, eqb}
 use lib.ListN.{length, take, drop, replicate}
-
 -- ---- "Bits, most significant first"
 
--- that many bits of a number
-unfoldable pub bitsOf : ℕ → ℕ → List ℕ
-bitsOf zero v = []
-bitsOf (suc w) v = v / 2 ^ w % 2 ∷ bitsOf w v
-
-unfoldable pub bitsOfBytes : List ℕ → List ℕ
-unfolding bitsOf
-bitsOfBytes [] = []
-bitsOfBytes (b ∷ bytes) = bitsOf 8 b ++ bitsOfBytes bytes
+unfoldable pub use Rattle.bits.specs.Bits.{bitsOf, bitsOfBytes, bitsOfAll}
 
 -- the number that bits say, going on from one
 unfoldable pub valueFrom : ℕ → List ℕ → ℕ
@@ -103,11 +94,6 @@ unfolding readBits bitsOfBytes
 readCard bytes = readBits (bitsOfBytes bytes)
 
 -- ---- "written back by a writer"
-
-unfoldable pub bitsOfAll : ℕ → List ℕ → List ℕ
-unfolding bitsOf
-bitsOfAll w [] = []
-bitsOfAll w (v ∷ vs) = bitsOf w v ++ bitsOfAll w vs
 
 unfoldable pub cardBits : Card → List ℕ
 unfolding bitsOf bitsOfAll

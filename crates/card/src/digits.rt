@@ -1,37 +1,13 @@
-// Bits: those of bytes, those of a field, and how many numbers a card has.
+// A field of bits, and how many numbers a card has.
+use bits::bit;
 use rules::Cols;
 use rules::Rows;
 ghost use Prim.Native.Nat.{_+_, _*_, _^_, _<_, _≤_};
 ghost use mathlib.Core.Path.{_≡_};
-ghost use lib.ListN.{length, getD};
-ghost use Rattle.card.specs.Card.{bitsOf, bitsOfBytes, numberCount};
+ghost use lib.ListN.{length};
+ghost use Rattle.card.specs.Card.{bitsOfBytes, numberCount};
 ghost use Rattle.card.specs.Fields.{fieldAt};
 ghost use Rattle.card.specs.Outcome.{storedOf};
-
-// Two to a power.
-fn power(exponent: usize) -> u64
-    requires { ⌜ exponent < 64 ⌝ }
-    ensures { λ r. ⌜ r ≡ 2 ^ exponent ⌝ }
-{
-    let mut p: u64 = 1;
-    for k in 0..exponent {
-        p = p * 2;
-    }
-    p
-}
-
-// The bit at a place, 0 past the end.
-fn bit(bytes: &[u8], at: usize) -> u64
-    ensures value { λ r. ⌜ r ≡ getD (bitsOfBytes (now (bytes .entry))) at 0 ⌝ }
-    ensures bound { λ r. ⌜ r < 2 ⌝ }
-{
-    let i = at / 8;
-    if i < bytes.len() {
-        let weight = power(7 - at % 8);
-        return bytes[i] as u64 / weight % 2;
-    }
-    0
-}
 
 // The number that some bits from a place on say.
 pub(crate) fn field(bytes: &[u8], at: usize, width: usize) -> u64
@@ -46,20 +22,6 @@ pub(crate) fn field(bytes: &[u8], at: usize, width: usize) -> u64
         v = v * 2 + bit(bytes, at + k);
     }
     v
-}
-
-// The bit at a place of a number that is written in so many bits, 0 past its end.
-pub fn bit_of(v: u64, width: usize, k: usize) -> u64
-    ensures value { λ r. ⌜ r ≡ getD (bitsOf width v) k 0 ⌝ }
-    ensures bound { λ r. ⌜ r < 2 ⌝ }
-{
-    if k < width {
-        let exponent = width - 1 - k;
-        if exponent < 64 {
-            return v / power(exponent) % 2;
-        }
-    }
-    0
 }
 
 // How many numbers A has; none where n or m is above 32, as in no card.

@@ -2,7 +2,6 @@
 mod digits;
 mod reader;
 
-pub use digits::bit_of;
 pub use digits::stored;
 pub use reader::read_card;
 use rules::Cols;

@@ -11,7 +11,7 @@ use lib.Seq.{length-take-le, take-nil, take-append-le, take-append-add, drop-app
 use borrow.Author.Tests.{leb-true, le-leb, eqb-true, eqb-false}
 use Rattle.card.specs.Card.{bitsOf, bitsOfBytes, Card, Reading, fault, read, readCard, numberCount, enough}
 use Rattle.card.specs.Fields.{fieldAt, bitCount, restAt}
-use Rattle.card.proofs.Bits.{bitsOf-length, bits-length}
+use Rattle.bits.proofs.Bits.{bitsOf-length, bits-length}
 use Rattle.card.proofs.Binary.{Binary, bytes-binary, take-binary, field-below}
 use Rattle.card.proofs.Counts.{number-most}
 use Rattle.card.proofs.Places.{byPlaces, card-by-places}

@@ -1,12 +1,12 @@
 // The text of a card's answer, in a buffer.
 mod bytes;
-mod lines;
+mod text_lines;
 
 use card_answer::Told;
-use lines::put_ended;
-use lines::put_numbered;
-use lines::refusal_of;
 use rules::Ending;
+use text_lines::put_ended;
+use text_lines::put_numbered;
+use text_lines::refusal_of;
 ghost use Prim.Native.Nat.{_≤_};
 ghost use lib.ListN.{length};
 ghost use Rattle.io.specs.Counts.{Counts};

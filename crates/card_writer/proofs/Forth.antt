@@ -13,7 +13,7 @@ use Rattle.card.specs.Card.{bitsOf, bitsOfAll, bitsOfBytes, allZero, Card, Read
 use Rattle.card.specs.Fields.{fieldAt}
 use Rattle.card_writer.specs.Bytes.{byteAt}
 use Rattle.card_writer.specs.RoundTrip.{Fits}
-use Rattle.card.proofs.Bits.{bitsOf-length, bits-length, bit-of, byte-bit}
+use Rattle.bits.proofs.Bits.{bitsOf-length, bits-length, bit-of, byte-bit}
 use Rattle.card.proofs.Binary.{Binary, drop-binary}
 use Rattle.card_writer.proofs.Bytes.{padded-bit, padded-length, bytes-of-length}
 use Rattle.card_writer.proofs.Fronts.{front1, front2, front3, front4, front5, front6, front7, front8, front9, card-is}

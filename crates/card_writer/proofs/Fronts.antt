@@ -7,7 +7,7 @@ use mathlib.Core.List.{List, _++_}
 use lib.ListN.{length, getD, length-append, List·getD-append, List·getD-eq-default}
 use lib.Seq.{getD-append-add}
 use Rattle.card.specs.Card.{Card, bitsOf, bitsOfAll, cardBits}
-use Rattle.card.proofs.Bits.{bitsOf-length, all-length, bit-of, all-bit}
+use Rattle.bits.proofs.Bits.{bitsOf-length, all-length, bit-of, all-bit}
 
 in-front : (xs ys : List ℕ) (at n : ℕ) → length xs ≡ n → at < n → getD (xs ++ ys) at 0 ≡ getD xs at 0
 in-front xs ys at n e h = List·getD-append xs ys 0 at (rw e h)

@@ -14,7 +14,8 @@ use Rattle.card.specs.Outcome.{answerOf, rowsOf, colsOf}
 use Rattle.card_writer.specs.Outcome.{isWritten, WriteOutcome}
 use Rattle.card_writer.specs.RoundTrip.{AreBytes, Fits}
 use Rattle.card_writer.specs.declared.Written.{Written}
-use Rattle.card.proofs.Bits.{bits-length, fields-length}
+use Rattle.bits.proofs.Bits.{bits-length}
+use Rattle.card.proofs.Bits.{fields-length}
 use Rattle.card.proofs.Binary.{bytes-binary, field-below, fields-below}
 use Rattle.card.proofs.Found.{Found, found-at}
 use Rattle.card_writer.proofs.Back.{Says, bits-said, same-bytes, bytes-back, cut-same, bytes-needed}

@@ -1,5 +1,5 @@
 // The writer of a card file: a card's bits by their places, eight to a byte.
-use card::bit_of;
+use bits::bit_of;
 use card::stored;
 use rules::Cols;
 use rules::Rows;

@@ -1,1 +1,1 @@
-pub mod Reflected
+pub mod Within

@@ -158,7 +158,7 @@ fn primal_residual(shape: Shape, a: &[f64], b: &[f64], scale: f64, x: &[f64], p:
     linalg::copy(&x[nm..nmm], p);
     matop::op(column(m), -1.0, b, &one, scale, p);
     matop::op(t, scale, a, &x[0..n], 1.0, p);
-    linalg::norm(p)
+    sums::norm(p)
 }
 
 // d becomes c + A transposed * y / tau; its norm.
@@ -177,7 +177,7 @@ fn dual_residual(shape: Shape, c: &[f64], a: &[f64], scale: f64, x: &[f64], d: &
     let t = matrix_of(shape);
     matop::op(column(n), 1.0, c, &one, 0.0, d);
     matop::trans_op(t, scale, a, &x[n..nm], 1.0, d);
-    linalg::norm(d)
+    sums::norm(d)
 }
 
 // The gap between c * x / tau and -b * y / tau, which are g_x and -g_y.
@@ -265,7 +265,7 @@ fn ray(shape: Shape, a: &[f64], x: &[f64], p: &mut [f64]) -> f64
     let t = matrix_of(shape);
     linalg::copy(&x[nm..nmm], p);
     matop::op(t, 1.0, a, &x[0..n], 1.0, p);
-    linalg::norm(p)
+    sums::norm(p)
 }
 
 // d becomes A transposed * y; its norm.
@@ -281,7 +281,7 @@ fn dual_ray(shape: Shape, a: &[f64], x: &[f64], d: &mut [f64]) -> f64
     let nm = n + m;
     let t = matrix_of(shape);
     matop::trans_op(t, 1.0, a, &x[n..nm], 0.0, d);
-    linalg::norm(d)
+    sums::norm(d)
 }
 
 // A norm times another, over a number above eps_zero; infinite if it is not above.

@@ -1,11 +1,11 @@
 // map_eig of floatgeneric.rs: the semidefinite projection.
-use float::root_two;
+use block::block_fits;
 use jacobi::jacobi_eig;
 use matrix::triangle;
+use root::root_two;
 use rules::Cone;
 use rules::Projection;
 use rules::SolverParam;
-use words::block_fits;
 ghost use Prim.Native.Nat.{_+_, _*_, _≤_, _<_};
 ghost use mathlib.Core.Path.{_≡_};
 ghost use mathlib.Core.Bool.{true};

@@ -1,10 +1,6 @@
 // The float helpers of document 01: each answers for every f64.
-mod roots;
-
-pub use roots::root;
 ghost use mathlib.Core.Path.{_≡_};
 ghost use Rattle.rules.specs.Helpers as rules;
-ghost use Rattle.rules.specs.Projections.{√2};
 
 // The larger of two: a NaN yields to the other, and in a tie the second is returned.
 pub fn larger(a: f64, b: f64) -> f64
@@ -36,11 +32,4 @@ pub fn reciprocal(x: f64) -> f64
     ensures { λ r. ⌜ r ≡ rules.reciprocal x ⌝ }
 {
     1.0 / x
-}
-
-// The root of 2.
-pub fn root_two() -> f64
-    ensures { λ r. ⌜ r ≡ √2 ⌝ }
-{
-    1.4142135623730951
 }

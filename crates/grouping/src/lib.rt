@@ -1,9 +1,9 @@
 // Grouping a list of blocks: each has its part of the lent slice, in list order.
-use product::list_fits;
+use block::places_of;
 use rules::Cone;
 use rules::Word;
-use words::places_of;
-use words::read_word;
+use word::read_word;
+use words::list_fits;
 ghost use mathlib.Core.Path.{_≡_};
 ghost use mathlib.Core.Bool.{true};
 ghost use Rattle.rules.specs.Outcome.{Outcome};

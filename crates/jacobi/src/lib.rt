@@ -1,9 +1,9 @@
 // Jacobi's method, jacobi_eig of floatgeneric.rs. The matrix is a packed upper triangle, the vectors are n columns of n.
+use block::sweeps_fit;
 use matrix::triangle;
 use rules::LIMIT;
 use rules::Projection;
 use rules::SolverParam;
-use words::sweeps_fit;
 ghost use Prim.Native.Nat.{_+_, _-_, _*_, _≤_, _<_};
 ghost use mathlib.Core.Path.{_≡_};
 ghost use lib.ListN.{length};
@@ -102,7 +102,7 @@ fn tangent(a: f64, b: f64, d: f64) -> f64
     ensures { λ t. ⌜ t ≡ rules.tangent a b d ⌝ }
 {
     let zeta = (b - a) / (2.0 * d);
-    let root = float::root(1.0 + zeta * zeta);
+    let root = root::root(1.0 + zeta * zeta);
     if zeta > 0.0 {
         1.0 / (zeta + root)
     } else {
@@ -113,7 +113,7 @@ fn tangent(a: f64, b: f64, d: f64) -> f64
 fn cosine(t: f64) -> f64
     ensures { λ c. ⌜ c ≡ rules.cosine t ⌝ }
 {
-    float::reciprocal(float::root(1.0 + t * t))
+    float::reciprocal(root::root(1.0 + t * t))
 }
 
 // One rotation of matrix and vectors.

@@ -1,20 +1,19 @@
-// The vector routines of floatgeneric.rs. A routine that takes two lengths answers a plain no, and
+// The vector routines of floatgeneric.rs, and one that clears. A routine that takes two lengths answers a plain no, and
 // changes nothing, where they don't fit; no length is too large.
 ghost use mathlib.Core.Path.{_≡_};
 ghost use mathlib.Core.Bool.{_&&_};
+ghost use lib.ListN.{length};
 ghost use Rattle.rules.specs.Outcome.{Outcome};
+ghost use Rattle.rules.specs.Prepare.{zeros};
 ghost use Rattle.rules.specs.Vectors.{sameLength, scaled, added, shifted, transformedDi};
-ghost use Rattle.rules.specs.Vectors as rules;
 
-// The root of the sum of squares.
-pub fn norm(x: &[f64]) -> f64
-    ensures { λ r. ⌜ r ≡ rules.norm (now (x .entry)) ⌝ }
+// Every place becomes +0.
+pub fn clear(v: &mut [f64])
+    ensures { λ _. ⌜ now (v .exit) ≡ zeros (length (now (v .entry))) ⌝ }
 {
-    let mut sum = 0.0;
-    for i in 0..x.len() {
-        sum = sum + x[i] * x[i];
+    for k in 0..v.len() {
+        v[k] = 0.0;
     }
-    float::root(sum)
 }
 
 // y becomes x.
@@ -62,24 +61,6 @@ pub fn adds(s: f64, y: &mut [f64])
     for i in 0..y.len() {
         y[i] = y[i] + s;
     }
-}
-
-// The sum of the absolute values of x[0], x[incx], x[2 * incx], ..
-pub fn abssum(x: &[f64], incx: usize) -> f64
-    ensures { λ r. ⌜ r ≡ rules.abssum (now (x .entry)) incx ⌝ }
-{
-    if incx == 0 {
-        return 0.0;
-    }
-    if x.len() == 0 {
-        return 0.0;
-    }
-    let terms = (x.len() - 1) / incx + 1;
-    let mut sum = 0.0;
-    for k in 0..terms {
-        sum = sum + float::magnitude(x[k * incx]);
-    }
-    sum
 }
 
 // y becomes alpha * mat * x + beta * y, where mat is the diagonal of a matrix.

@@ -1,5 +1,5 @@
 // The preconditioner: the two diagonals, calc_precond of solver.rs.
-mod sums;
+mod abs_sums;
 
 use rules::Shape;
 use rules::SolverParam;
@@ -97,7 +97,7 @@ fn precond_all(
         (now («dp_tau» .entry))
         ⌝ }
 {
-    sums::abssum(shape, c, a, b, dp_tau, dp_sigma);
+    abs_sums::abssum(shape, c, a, b, dp_tau, dp_sigma);
     diagonal(par.eps_zero, dp_tau);
     diagonal(par.eps_zero, dp_sigma);
     group_parts(shape, words, dp_tau);

@@ -1,6 +1,5 @@
 -- Laws of the complete outcome of preparing.
 use Prim.Native.Nat.{ℕ}
-use native.Mathlib.Omega.{arith}
 use mathlib.Core.Path.{_≡_, sym, _∙_}
 use mathlib.Core.Bool.{true, false}
 use mathlib.Core.List.{List}
@@ -69,17 +68,3 @@ prepared-where-fits {par = par} o f l x y tau sigma =
       tau-is = rw e at (o .tau-left);
       sigma-is = rw e at (o .sigma-left);
     }
-
--- its answer is never a plain no, and holds the norms
-module _ {p : Problem} {x y tau : List Float} {answer : Prepared} {x' y' tau' sigma' : List Float} (by : PreparedBy p x y tau answer x' y' tau' sigma') where
-  pub prepared-some : answer ≡ No → ⊥
-  prepared-some is = some (sym is ∙ by .answer-is)
-    where
-      some : {ns : Norms} → No ≡ Done ns → ⊥
-      some e = let z : _≡_ {A = ℕ} 0 1 = cc in omega arith
-
-  pub prepared-norms : {ns : Norms} → answer ≡ Done ns → ns ≡ norms (embed p) x
-  prepared-norms is = same (sym is ∙ by .answer-is)
-    where
-      same : {v w : Norms} → Done v ≡ Done w → v ≡ w
-      same e = cc

@@ -81,8 +81,8 @@ fn column_in(v: &[f64], t: &mut [f64])
 fn fr_norm(t: &[f64]) -> f64
     ensures { λ r. ⌜ r ≡ frNorm (now (t .entry)) ⌝ }
 {
-    let norm = linalg::norm(t);
-    float::root(0.0 + norm * norm)
+    let norm = sums::norm(t);
+    root::root(0.0 + norm * norm)
 }
 
 // x and y are multiplied by 0, and tau is set to 1.

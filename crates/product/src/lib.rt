@@ -1,60 +1,16 @@
 // The projection of a list of blocks: each has its part of the lent slice, in list order.
+use block::places_of;
 use cone::proj;
-use rules::MOST_PLACES;
 use rules::Product;
 use rules::Projection;
 use rules::SolverParam;
 use rules::Word;
-use words::cone_work_len;
-use words::is_bad_cone;
-use words::is_within;
-use words::places_of;
-use words::read_word;
-use words::sweeps_fit;
+use word::read_word;
+use words::product_fits;
 ghost use mathlib.Core.Path.{_≡_};
 ghost use mathlib.Core.Bool.{true};
 ghost use Rattle.rules.specs.Blocks.{blocksOf};
-ghost use Rattle.rules.specs.Product.{projAll, blocksWithin, sumsFit, lengthsFit, productFits, ProductOutcome};
-
-// Whether no block is above the limit.
-fn blocks_within(words: &[u16]) -> bool
-    ensures { λ r. ⌜ r ≡ blocksWithin (blocksOf (now (words .entry))) ⌝ }
-{
-    for i in 0..words.len() {
-        if let Word::Block(block) = read_word(words[i]) {
-            if !is_within(block) {
-                return false;
-            }
-        }
-    }
-    true
-}
-
-// Whether a list is good for that many places, with no block above the limit.
-pub fn list_fits(words: &[u16], len: usize) -> bool
-    ensures { λ r. ⌜ r ≡ sumsFit (now (words .entry)) len ⌝ }
-{
-    if is_bad_cone(words, len) {
-        return false;
-    }
-    blocks_within(words)
-}
-
-// Whether the list, its places, cone work and the sweep limit fit.
-pub fn product_fits(par: SolverParam, words: &[u16], len: usize, work: usize) -> bool
-    ensures { λ r. ⌜ r ≡ lengthsFit par (now (words .entry)) len work ⌝ }
-{
-    if !list_fits(words, len) {
-        return false;
-    }
-    if work < cone_work_len(words) {
-        return false;
-    }
-    if MOST_PLACES < len {
-        return false;
-    }
-    sweeps_fit(par)
-}
+ghost use Rattle.rules.specs.Product.{projAll, productFits, ProductOutcome};
 
 // Projects the blocks of a list that fits.
 fn proj_all(par: SolverParam, dual: bool, words: &[u16], x: &mut [f64], work: &mut [f64]) -> Product

@@ -1,9 +1,9 @@
 // The cones of a step: all dual blocks of a vector like x, then all primal blocks.
-use product::product_fits;
 use rules::Product;
 use rules::Shape;
 use rules::SolverParam;
 use shape::fits_x;
+use words::product_fits;
 ghost use Prim.Native.Nat.{_≤_};
 ghost use mathlib.Core.Bool.{true};
 ghost use lib.ListN.{length};
@@ -12,7 +12,7 @@ ghost use Rattle.rules.specs.Product.{ProductOutcome};
 ghost use Rattle.shape.specs.Fitting.{LikeX};
 ghost use Rattle.project.specs.Project.{ConesReady, projectedIn, projectFits};
 
-// Projects all dual blocks, then all primal blocks, and stops at the first that fails. Where a length, the cone list or
+// Projects all dual blocks, then all primal blocks, and stops at the first that fails. Where a length, a size, the cone list or
 // the sweep limit doesn't fit, it answers no and changes nothing.
 pub fn project(
     par: SolverParam,

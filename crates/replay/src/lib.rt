@@ -1,5 +1,4 @@
-// What the programs that replay a list share: a record's words, comparing patterns, arrays of its numbers,
-// and the lines that they write.
-pub mod lines;
+// What the programs that replay a list share: a record's words, comparing patterns, and arrays of its
+// numbers.
 pub mod record;
 pub mod room;

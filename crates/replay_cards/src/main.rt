@@ -2,7 +2,6 @@
 // compare/README.md says. What is written must be the original's answers, one after another.
 use libc::STDIN_FILENO;
 use libc::STDOUT_FILENO;
-use replay::lines;
 
 // Reads a card and answers it: whether there was a whole one, and all of the answer was written.
 fn answer_one() -> bool {

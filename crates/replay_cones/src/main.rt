@@ -5,7 +5,6 @@ mod operations;
 
 use libc::STDOUT_FILENO;
 use operations::Found;
-use replay::lines;
 use replay_semidefinite::semidefinite;
 
 // One more than the largest number of an operation.

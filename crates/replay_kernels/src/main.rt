@@ -5,7 +5,6 @@ mod operations;
 
 use libc::STDOUT_FILENO;
 use operations::Found;
-use replay::lines;
 
 // One more than the largest number of an operation.
 const OPERATIONS: usize = 24;

@@ -54,7 +54,7 @@ fn norm(record: &[u8]) -> bool {
         return false;
     }
     let x = room::numbers(record, 1, n);
-    record::holds_one(record, n + 1, linalg::norm(&x[0..n]))
+    record::holds_one(record, n + 1, sums::norm(&x[0..n]))
 }
 
 fn copy(record: &[u8]) -> bool {
@@ -102,7 +102,7 @@ fn abssum(record: &[u8]) -> bool {
     record::holds_one(
         record,
         n + 2,
-        linalg::abssum(&x[0..n], record::size(record, 1)),
+        sums::abssum(&x[0..n], record::size(record, 1)),
     )
 }
 

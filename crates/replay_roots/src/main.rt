@@ -1,8 +1,7 @@
 // Replays the original's square roots: standard input holds the number of records and then, for each,
 // the pattern of a number and that of its root, as compare/README.md says. Each root is taken again
-// by float::root and held to the list.
+// by root::root and held to the list.
 use libc::STDOUT_FILENO;
-use replay::lines;
 
 struct Tally {
     agree: u64,
@@ -21,7 +20,7 @@ fn replay_one() -> Found {
         return Found::Missing;
     }
     let x = patterns::number_of(patterns::word_at(&record, 0));
-    let root = patterns::pattern_of(float::root(x));
+    let root = patterns::pattern_of(root::root(x));
     if root == patterns::word_at(&record, 8) {
         Found::Agrees
     } else {

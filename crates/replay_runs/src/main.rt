@@ -4,7 +4,6 @@
 mod cases;
 
 use libc::STDOUT_FILENO;
-use replay::lines;
 use replay_problems::room::A_ROOM;
 use replay_problems::runs;
 use replay_problems::runs::Found;
@@ -103,6 +102,16 @@ fn replay(
 
 // Writes the name of what is counted, if there is one of this number.
 fn write_name(number: usize) -> bool {
+    if number <= 6 {
+        return write_refusal(number);
+    }
+    if number <= 12 {
+        return write_ending(number);
+    }
+    write_difference(number)
+}
+
+fn write_refusal(number: usize) -> bool {
     match number {
         1 => io::write_all(STDOUT_FILENO, b"BadParam"),
         2 => io::write_all(STDOUT_FILENO, b"TooLarge"),
@@ -110,12 +119,24 @@ fn write_name(number: usize) -> bool {
         4 => io::write_all(STDOUT_FILENO, b"BadCone"),
         5 => io::write_all(STDOUT_FILENO, b"NotFinite"),
         6 => io::write_all(STDOUT_FILENO, b"WorkShortage"),
+        _ => false,
+    }
+}
+
+fn write_ending(number: usize) -> bool {
+    match number {
         7 => io::write_all(STDOUT_FILENO, b"Converged"),
         8 => io::write_all(STDOUT_FILENO, b"ExcessIter, scaled"),
         9 => io::write_all(STDOUT_FILENO, b"ExcessIter, unscaled"),
         10 => io::write_all(STDOUT_FILENO, b"Unbounded"),
         11 => io::write_all(STDOUT_FILENO, b"Infeasible"),
         12 => io::write_all(STDOUT_FILENO, b"ConeFailure"),
+        _ => false,
+    }
+}
+
+fn write_difference(number: usize) -> bool {
+    match number {
         13 => io::write_all(STDOUT_FILENO, b"of all these, eps_zero of -0"),
         14 => io::write_all(STDOUT_FILENO, b"of all these, a sweep limit reached"),
         15 => {

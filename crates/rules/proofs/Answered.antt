@@ -231,10 +231,8 @@ module _ (p : Problem) (work cone : List Float) (h : Sized p (run p .state)) whe
   all-laid : isConeFailure (run p .ending) ≡ false → (take (workLength (p .m) (p .n)) (leftBy p work cone (run p) .work) ≡ laidOut p (run p .ending) (stateAfter p (run p .steps))) × (take (coneWork (blocks p)) (leftBy p work cone (run p) .cone) ≡ stateAfter p (run p .steps) .cone)
   all-laid held = (rw (← first .state-there) (front .0 ∙ rw held), rw (← first .state-there) (front .1 ∙ rw held))
 
-  all-zeroed : r .solution ≡ all-zero → (take (workLength (p .m) (p .n)) (leftBy p work cone (run p) .work) ≡ zeros (workLength (p .m) (p .n))) × (take (coneWork (blocks p)) (leftBy p work cone (run p) .cone) ≡ zeros (coneWork (blocks p)))
-  all-zeroed z =
-      let failed : isConeFailure (run p .ending) ≡ true = rw (r .on-paper, z) in
-      (front .0 ∙ rw failed, front .1 ∙ rw failed)
+  all-zeroed : isConeFailure (run p .ending) ≡ true → (take (workLength (p .m) (p .n)) (leftBy p work cone (run p) .work) ≡ zeros (workLength (p .m) (p .n))) × (take (coneWork (blocks p)) (leftBy p work cone (run p) .cone) ≡ zeros (coneWork (blocks p)))
+  all-zeroed failed = (front .0 ∙ rw failed, front .1 ∙ rw failed)
 
   answered : AnsweredByTheRules p (leftBy p work cone (run p) .answer) (leftBy p work cone (run p) .work) (leftBy p work cone (run p) .cone)
   answered =

@@ -19,7 +19,7 @@ use Rattle.rules.specs.declared.Norms.{Norms}
 use Rattle.rules.specs.Prepare.{prepared, preparedNorms}
 use Rattle.rules.specs.declared.Verdict.{Verdict}
 use Rattle.rules.specs.declared.Verdict.the-variants.{Ends, GoesOn}
-use Rattle.rules.specs.Run.{WholeStep, wholeStep, verdict, allowance, stateFrom, Piece, goingOn, pieceFrom, takenUp, Ended, endedBy, finished, runFrom, run}
+use Rattle.rules.specs.Run.{WholeStep, wholeStep, verdict, allowance, stateFrom, Piece, goingOn, pieceFrom, takenUp, Ended, endedBy, run}
 use Rattle.rules.specs.Demands.{stepFrom, verdictFrom, rotationsFrom, GoesByTheRules, stateAfter, step, verdictAt, rotationsUpTo, EndsFirst, endingTest, GoesOnExactly}
 use Rattle.rules.proofs.Columns.{by-less}
 
@@ -78,15 +78,15 @@ no-rotations : (p : Problem) (ns : Norms) (s : State) → rotationsFrom p ns s 0
 unfolding rotationsFrom
 no-rotations p ns s = refl
 
-no-steps : (p : Problem) (ns : Norms) (s : State) → stateFrom p ns s 0 ≡ s
+pub no-steps : (p : Problem) (ns : Norms) (s : State) → stateFrom p ns s 0 ≡ s
 unfolding stateFrom
 no-steps p ns s = refl
 
-piece-more : (p : Problem) (ns : Norms) (more k q : ℕ) (s : State) (t : WholeStep) → t ≡ wholeStep p ns s → pieceFrom (suc more) p ns k q s ≡ goingOn (verdict (p .par) (k + 1) (t .failure) (t .criteria)) (pieceFrom more p ns (k + 1) (q + t .rotations) (t .state)) (k + 1) (q + t .rotations) (t .state)
+pub piece-more : (p : Problem) (ns : Norms) (more k q : ℕ) (s : State) (t : WholeStep) → t ≡ wholeStep p ns s → pieceFrom (suc more) p ns k q s ≡ goingOn (verdict (p .par) (k + 1) (t .failure) (t .criteria)) (pieceFrom more p ns (k + 1) (q + t .rotations) (t .state)) (k + 1) (q + t .rotations) (t .state)
 unfolding pieceFrom
 piece-more p ns more k q s t e = rw e
 
-piece-none : (p : Problem) (ns : Norms) (k q : ℕ) (s : State) → pieceFrom zero p ns k q s ≡ record { said = GoesOn; steps = k; rotations = q; state = s }
+pub piece-none : (p : Problem) (ns : Norms) (k q : ℕ) (s : State) → pieceFrom zero p ns k q s ≡ record { said = GoesOn; steps = k; rotations = q; state = s }
 unfolding pieceFrom
 piece-none p ns k q s = refl
 
@@ -175,29 +175,9 @@ pieces-join (suc a) b p ns k q s = joined-more p ns a b k q s (wholeStep p ns s)
 
 -- ---- the run
 
-run-from-is : (p : Problem) (ns : Norms) (left k q : ℕ) (s : State) → runFrom left p ns k q s ≡ endedBy (pieceFrom left p ns (k - 1) q s)
-unfolding runFrom
-run-from-is p ns left k q s = refl
-
 pub run-is : (p : Problem) → run p ≡ endedBy (pieceFrom (allowance (p .par)) p (preparedNorms p) 0 0 (prepared p))
 unfolding run
-run-is p = run-from-is p (preparedNorms p) (allowance (p .par)) 1 0 (prepared p)
-
-pub run-more : (p : Problem) (ns : Norms) (left k q : ℕ) (s : State) (t : WholeStep) → 1 ≤ k → t ≡ wholeStep p ns s → runFrom (suc left) p ns k q s ≡ finished (verdict (p .par) k (t .failure) (t .criteria)) (runFrom left p ns (k + 1) (q + t .rotations) (t .state)) k (q + t .rotations) (t .state)
-run-more p ns left k q s t l e = go (verdict (p .par) k (t .failure) (t .criteria)) refl
-  where
-    here : k - 1 + 1 ≡ k
-    here = omega arith
-
-    next : k + 1 - 1 ≡ k
-    next = omega arith
-
-    more : pieceFrom (suc left) p ns (k - 1) q s ≡ goingOn (verdict (p .par) k (t .failure) (t .criteria)) (pieceFrom left p ns k (q + t .rotations) (t .state)) k (q + t .rotations) (t .state)
-    more = rw here at (piece-more p ns left (k - 1) q s t e)
-
-    go : (v : Verdict) → verdict (p .par) k (t .failure) (t .criteria) ≡ v → runFrom (suc left) p ns k q s ≡ finished v (runFrom left p ns (k + 1) (q + t .rotations) (t .state)) k (q + t .rotations) (t .state)
-    go GoesOn is = run-from-is p ns (suc left) k q s ∙ ap endedBy (rw is at more) ∙ sym (rw next at (run-from-is p ns left (k + 1) (q + t .rotations) (t .state)))
-    go (Ends x) is = run-from-is p ns (suc left) k q s ∙ ap endedBy (rw is at more)
+run-is p = refl
 
 none-behind : (i : ℕ) → 0 + i ≡ i
 none-behind i = omega arith

@@ -204,7 +204,7 @@ pub record AnsweredByTheRules (p : Problem) (answer : Answer) (work cone : List 
   pub y-back : solutionY (p .m) (p .n) work ≡ handedBack solution (tauAfter p (answer .steps)) (xY (embed p) (stateAfter p (answer .steps) .x))
   -- all of the required parts: as step k left them, but for x and y, or "required part of both buffers +0"
   pub laid : isConeFailure (answer .ending) ≡ false → (take (workLength (p .m) (p .n)) work ≡ laidOut p (answer .ending) (stateAfter p (answer .steps))) × (take (coneWork (blocks p)) cone ≡ stateAfter p (answer .steps) .cone)
-  pub zeroed : solution ≡ all-zero → (take (workLength (p .m) (p .n)) work ≡ zeros (workLength (p .m) (p .n))) × (take (coneWork (blocks p)) cone ≡ zeros (coneWork (blocks p)))
+  pub zeroed : isConeFailure (answer .ending) ≡ true → (take (workLength (p .m) (p .n)) work ≡ zeros (workLength (p .m) (p .n))) × (take (coneWork (blocks p)) cone ≡ zeros (coneWork (blocks p)))
 
 -- the required parts of both buffers, for the problem as it is read
 abbrev pub workNeeded : Problem → ℕ

@@ -1,5 +1,5 @@
 -- Document 01, "How a run ends".
-use Prim.Native.Nat.{ℕ, zero, suc, _+_, _-_, max}
+use Prim.Native.Nat.{ℕ, zero, suc, _+_, max}
 use mathlib.Core.Bool.{Bool, true, false, cond, _&&_}
 use mathlib.Core.List.{List, [], _++_}
 use lib.Dec.{leb}
@@ -108,15 +108,6 @@ endingOf (Ends e) = e
 abbrev pub endedBy : Piece → Ended
 endedBy c = record { ending = endingOf (c .said); steps = c .steps; rotations = c .rotations; state = c .state }
 
-abbrev pub finished : Verdict → Ended → ℕ → ℕ → State → Ended
-finished GoesOn rest k q s = rest
-finished (Ends e) rest k q s = record { ending = e; steps = k; rotations = q; state = s }
-
--- the run's steps from the k-th on, with that many of the allowance left: what a loop over the steps is proved to make
-unfoldable pub runFrom : ℕ → Problem → Norms → ℕ → ℕ → State → Ended
-unfolding pieceFrom
-runFrom left p ns k q s = endedBy (pieceFrom left p ns (k - 1) q s)
-
 -- ---- x and y in work: the third column of the table
 
 abbrev pub scales : OnPaper → Bool
@@ -161,8 +152,8 @@ laidOut p e s = finalX p e (s .x) ++ s .y ++ s .dpTau ++ s .dpSigma ++ s .rx ++ 
 
 -- "On acceptance the required part of both buffers becomes +0": the run starts from that, whatever the buffers held.
 unfoldable pub run : Problem → Ended
-unfolding runFrom prepared norms
-run p = runFrom (allowance (p .par)) p (preparedNorms p) 1 0 (prepared p)
+unfolding pieceFrom prepared norms
+run p = endedBy (pieceFrom (allowance (p .par)) p (preparedNorms p) 0 0 (prepared p))
 
 -- What an accepted run leaves. "ConeFailure: required part of both buffers +0"; "places beyond it are never changed".
 pub record Left : Type 0 where

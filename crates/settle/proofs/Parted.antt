@@ -1,4 +1,4 @@
--- Laws of vectors that are laid one after another at the front of a buffer, and of a buffer that is cleared.
+-- Laws of vectors that are laid one after another at the front of a buffer.
 use Prim.Native.Nat.{ℕ, zero, suc, _+_, _-_, _≤_}
 use native.Mathlib.Omega.{arith}
 use mathlib.Core.Path.{_≡_, refl, ap, _∙_}
@@ -8,19 +8,13 @@ use lib.Ieee.{Float}
 use lib.ListN.{length, take, drop, length-append, length-drop}
 use lib.Seq.{take-at, drop-at, drop-drop}
 use Rattle.rules.specs.Helpers.{one, reciprocal}
-use Rattle.rules.specs.Arithmetic.{_*ᶠ_, _/ᶠ_, +0, at, each, eachTo}
+use Rattle.rules.specs.Arithmetic.{_*ᶠ_, _/ᶠ_, at, each, eachTo}
 use Rattle.rules.specs.Vectors.{scaled}
 use Rattle.rules.specs.declared.Ending.{Ending}
 use Rattle.rules.specs.Problem.{Problem, lengthX}
-use Rattle.rules.specs.Prepare.{zeros}
 use Rattle.rules.specs.Run.{finishedX, finalX, isScaled}
 use Rattle.rules.proofs.Parts.{put, drop-rest}
 use Rattle.settle.specs.Parts.{copiedTo}
-
-pub cleared : (v : List Float) → each (λ k w. +0) v ≡ zeros (length v)
-unfolding each
-cleared [] = refl
-cleared (x ∷ v) = ap (λ (l : List Float). +0 ∷ l) (cleared v)
 
 pub put-copied : (a : ℕ) (v w : List Float) → put a (a + length v) w v ≡ copiedTo a v w
 unfolding copiedTo

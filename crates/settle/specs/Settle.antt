@@ -33,7 +33,7 @@ module _ (m n : ℕ) (x y dpTau dpSigma rx tx work : List Float) where
     pub tx-long : length tx ≡ lengthX m n
     pub work-long : workLength m n ≤ length work
 
-  -- what each buffer becomes: after a cone's failure +0
+  -- what each buffer becomes: after a cone's failure x is kept, and the required part of work and all of cone work are +0
   abbrev pub settledX : Ending → List Float
   settledX e = cond (isConeFailure e) x (finishedX m n (isScaled e) x)
 

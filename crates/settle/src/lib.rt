@@ -2,5 +2,4 @@
 mod parts;
 mod settling;
 
-pub use parts::clear;
 pub use settling::settle;

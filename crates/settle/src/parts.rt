@@ -4,7 +4,6 @@ ghost use mathlib.Core.Path.{_≡_};
 ghost use mathlib.Core.List.{_++_};
 ghost use lib.ListN.{length, drop};
 ghost use Rattle.rules.specs.Problem.{lengthX};
-ghost use Rattle.rules.specs.Prepare.{zeros};
 ghost use Rattle.rules.specs.Run.{finishedX};
 ghost use Rattle.settle.specs.Parts.{copiedTo};
 
@@ -64,13 +63,4 @@ fn copy_to(v: &[f64], start: usize, work: &mut [f64])
 {
     let end = start + v.len();
     linalg::copy(v, &mut work[start..end]);
-}
-
-// Every place becomes +0.
-pub fn clear(v: &mut [f64])
-    ensures { λ _. ⌜ now (v .exit) ≡ zeros (length (now (v .entry))) ⌝ }
-{
-    for k in 0..v.len() {
-        v[k] = 0.0;
-    }
 }

@@ -13,9 +13,10 @@ ghost use Rattle.rules.specs.Problem.{workLength};
 ghost use Rattle.rules.specs.Prepare.{zeros};
 ghost use Rattle.settle.specs.Settle.{settleLengthsFit, Fitting, Settled, SettleOutcome};
 
-// A run's vectors come into work, with x and y times 1/tau where the ending asks for it; after a cone's failure
-// the required part of work, and all of cone work, become +0. Where a length or a size doesn't fit, it answers
-// no and changes nothing.
+// A run's vectors come into work. Where the ending asks for it, the solution's x and y, the first n + m places of x, are
+// first multiplied by 1/tau, in x itself. After a cone's failure x is kept, and the required part of work, and all of cone
+// work, become +0. An ending that is a refusal, which no run ends by, is laid out unscaled. Where a length or a size
+// doesn't fit, it answers no and changes nothing.
 pub fn settle(
     rows: Rows,
     cols: Cols,
@@ -128,7 +129,7 @@ fn settle_in(
 {
     if verdict::is_cone_failure(ending) {
         clear_front(m, n, work);
-        parts::clear(cone_work);
+        linalg::clear(cone_work);
         return;
     }
     parts::finish(m, n, verdict::is_scaled(ending), x);
@@ -142,5 +143,5 @@ fn clear_front(m: usize, n: usize, work: &mut [f64])
     ensures { λ _. ⌜ now (work .exit) ≡ zeros (workLength m n) ++ drop (workLength m n) (now (work .entry)) ⌝ }
 {
     let required = 6 * n + 10 * m + 6;
-    parts::clear(&mut work[0..required]);
+    linalg::clear(&mut work[0..required]);
 }

@@ -30,7 +30,7 @@ pub fn column(rows: usize) -> MatType
 }
 
 // Whether both sizes are within the limit.
-pub fn is_within(shape: Shape) -> bool
+fn is_within(shape: Shape) -> bool
     ensures { λ r. ⌜ r ≡ isWithin shape ⌝ }
 {
     if LIMIT < shape.rows.0 {

@@ -1,6 +1,7 @@
 -- A run that starts in vectors at zero and a cone work that was cleared is the rule's run.
 use Prim.Native.Nat.{ℕ}
-use mathlib.Core.Path.{_≡_, refl, sym, _∙_}
+use native.Mathlib.Omega.{arith}
+use mathlib.Core.Path.{_≡_, refl, _∙_}
 use mathlib.Core.Bool.{Bool, true, false, cond}
 use mathlib.Core.List.{List, _++_}
 use borrow.Author.Tests.{eq-eqb}
@@ -10,21 +11,34 @@ use Rattle.rules.specs.declared.Answer.{Answer}
 use Rattle.rules.specs.Arithmetic.{+0}
 use Rattle.rules.specs.Blocks.{hasBadWord, blocksOf, totalPlaces, isBadCone}
 use Rattle.rules.specs.Product.{coneWork}
-use Rattle.rules.specs.Problem.{Problem, blocks, lengthX, lengthY, workLength}
-use Rattle.rules.specs.Step.{State}
+use Rattle.rules.specs.Problem.{Problem, embed, blocks, lengthX, lengthY, workLength}
+use Rattle.rules.specs.declared.Ending.{Ending}
+use Rattle.rules.specs.declared.Ending.the-variants.{ConeFailure}
+use Rattle.rules.specs.declared.Verdict.{Verdict}
+use Rattle.rules.specs.declared.Verdict.the-variants.{GoesOn, Ends}
 use Rattle.rules.specs.declared.Norms.{Norms}
 use Rattle.rules.specs.declared.Shape.{Shape}
-use Rattle.rules.specs.Prepare.{prepared, preparedNorms, zeros}
-use Rattle.rules.specs.Run.{run, runFrom, allowance, laidOut, isConeFailure}
+use Rattle.rules.specs.declared.SolverParam.{SolverParam}
+use Rattle.rules.specs.Prepare.{norms, prepared, preparedNorms, zeros}
+use Rattle.rules.specs.Run.{Piece, endedBy, run, laidOut, isConeFailure}
+use Rattle.rules.proofs.Run.{run-is}
 use Rattle.rules.proofs.Lengths.{prepared-sized}
 use Rattle.shape.specs.Fitting.{LikeX, LikeY}
-use Rattle.rules.specs.Problem.{shapeOf}
+use Rattle.rules.specs.Problem.{problemIn, shapeOf}
 use Rattle.precond.specs.Precond.{Covers}
-use Rattle.step.specs.Update.{stateOf}
-use Rattle.settle.specs.Settle.{Settled}
+use Rattle.prepare.specs.declared.Prepared.{Prepared}
+use Rattle.prepare.specs.declared.Prepared.the-variants.{Done, No}
+use Rattle.prepare.specs.Prepare.{PreparedOutcome}
+use Rattle.prepare.proofs.Outcomes.{PreparedBy, prepared-where-fits}
+use Rattle.step.specs.Update.{stateOf, stepFits, StepReady}
+use Rattle.iterate.specs.declared.Iterated.{Iterated}
+use Rattle.iterate.specs.declared.Iterated.the-variants.{Made, No as NoRun}
+use Rattle.iterate.specs.Iterate.{pieceOf, IterateOutcome}
+use Rattle.iterate.proofs.Outcomes.{RanBy, ran-where-fits}
+use Rattle.settle.specs.Settle.{Settled, SettleOutcome}
+use Rattle.settle.proofs.Settled.{settled-if-fitting}
 use Rattle.settle.proofs.Parted.{final-finished}
-use Rattle.solver.specs.Solve.{Ready, PreparedAs, Lent, AtZero, RanIn}
-use Rattle.solver.specs.Run.{AsEnded, Iterated}
+use Rattle.solver.specs.Solve.{Ready, Lent, AtZero, answerOf, answerBy, RanIn}
 
 good-list : (words : List ℕ) (m : ℕ) → hasBadWord words ≡ false → totalPlaces (blocksOf words) ≡ m → isBadCone words m ≡ false
 unfolding isBadCone
@@ -33,86 +47,152 @@ good-list words m readable places = rw (readable, eq-eqb (totalPlaces (blocksOf 
 -- ---- the six vectors at zero
 
 module _ {shape : Shape} {x y dpTau dpSigma rx tx : List Float} (z : AtZero shape x y dpTau dpSigma rx tx) where
-  pub zero-x : LikeX shape x
+  zero-x : LikeX shape x
   zero-x = record { is = rw (z .x-zero) (length-replicate (lengthX (shape .rows .0) (shape .cols .0)) +0) }
 
-  pub zero-y : LikeY shape y
+  zero-y : LikeY shape y
   zero-y = record { is = rw (z .y-zero) (length-replicate (lengthY (shape .rows .0) (shape .cols .0)) +0) }
 
-  pub zero-tau : LikeX shape dpTau
+  zero-tau : LikeX shape dpTau
   zero-tau = record { is = rw (z .tau-zero) (length-replicate (lengthX (shape .rows .0) (shape .cols .0)) +0) }
 
-  pub zero-sigma : LikeY shape dpSigma
+  zero-sigma : LikeY shape dpSigma
   zero-sigma = record { is = rw (z .sigma-zero) (length-replicate (lengthY (shape .rows .0) (shape .cols .0)) +0) }
 
-  pub zero-rx : LikeX shape rx
+  zero-rx : LikeX shape rx
   zero-rx = record { is = rw (z .rx-zero) (length-replicate (lengthX (shape .rows .0) (shape .cols .0)) +0) }
 
-  pub zero-tx : LikeX shape tx
+  zero-tx : LikeX shape tx
   zero-tx = record { is = rw (z .tx-zero) (length-replicate (lengthX (shape .rows .0) (shape .cols .0)) +0) }
 
-pub cleared-long : {p : Problem} {work cone cone' : List Float} → Lent p work cone → cone' ≡ zeros (length cone) → length cone' ≡ coneWork (blocks p)
+cleared-long : {p : Problem} {work cone cone' : List Float} → Lent p work cone → cone' ≡ zeros (length cone) → length cone' ≡ coneWork (blocks p)
 cleared-long {p} {work} {cone} {cone'} l e = rw e (length-replicate (length cone) +0) ∙ l .cone-long
 
 -- ---- before the first step
 
-pub covers : {p : Problem} → Ready p → Covers (shapeOf p) (p .words)
+covers : {p : Problem} → Ready p → Covers (shapeOf p) (p .words)
 covers {p} r = record { is = good }
   where
     good : isBadCone (p .words) (p .m) ≡ false
     good = good-list (p .words) (p .m) (r .readable) (r .places)
 
-whole-is : (p : Problem) → run p ≡ runFrom (allowance (p .par)) p (preparedNorms p) 1 0 (prepared p)
-unfolding run
-whole-is p = refl
-
-prepared-is : {p : Problem} {x y dpTau dpSigma rx tx : List Float} {ns : Norms} {x' y' dpTau' dpSigma' : List Float} → AtZero (shapeOf p) x y dpTau dpSigma rx tx → PreparedAs p x y dpTau ns x' y' dpTau' dpSigma' → (cone : List Float) → cone ≡ zeros (coneWork (blocks p)) → stateOf x' y' dpTau' dpSigma' rx tx cone ≡ prepared p
+prepared-is : {p : Problem} {x y dpTau dpSigma rx tx : List Float} {answer : Prepared} {x' y' dpTau' dpSigma' : List Float} → AtZero (shapeOf p) x y dpTau dpSigma rx tx → PreparedBy p x y dpTau answer x' y' dpTau' dpSigma' → (cone : List Float) → cone ≡ zeros (coneWork (blocks p)) → stateOf x' y' dpTau' dpSigma' rx tx cone ≡ prepared p
 unfolding prepared
 prepared-is z q cone e = rw (q .x-is, q .y-is, q .tau-is, q .sigma-is, z .x-zero, z .y-zero, z .tau-zero, z .rx-zero, z .tx-zero, e)
 
-module _ {p : Problem} {x y dpTau dpSigma rx tx : List Float} {ns : Norms} {x' y' dpTau' dpSigma' : List Float} (z : AtZero (shapeOf p) x y dpTau dpSigma rx tx) (q : PreparedAs p x y dpTau ns x' y' dpTau' dpSigma') where
-  norms-start : ns ≡ preparedNorms p
-  norms-start = q .norms-are ∙ rw (z .x-zero)
-
+module _ {p : Problem} {x y dpTau dpSigma rx tx : List Float} {answer : Prepared} {x' y' dpTau' dpSigma' : List Float} (z : AtZero (shapeOf p) x y dpTau dpSigma rx tx) (q : PreparedBy p x y dpTau answer x' y' dpTau' dpSigma') where
   state-start : stateOf x' y' dpTau' dpSigma' rx tx (zeros (coneWork (blocks p))) ≡ prepared p
   state-start = prepared-is z q (zeros (coneWork (blocks p))) refl
 
-  pub prepared-x : LikeX (shapeOf p) x'
+  prepared-x : LikeX (shapeOf p) x'
   prepared-x = record { is = (rw (← state-start) at (prepared-sized p)) .x }
 
-  pub prepared-y : LikeY (shapeOf p) y'
+  prepared-y : LikeY (shapeOf p) y'
   prepared-y = record { is = (rw (← state-start) at (prepared-sized p)) .y }
 
-  pub prepared-tau : LikeX (shapeOf p) dpTau'
+  prepared-tau : LikeX (shapeOf p) dpTau'
   prepared-tau = record { is = (rw (← state-start) at (prepared-sized p)) .dpTau }
 
-  pub prepared-sigma : LikeY (shapeOf p) dpSigma'
+  prepared-sigma : LikeY (shapeOf p) dpSigma'
   prepared-sigma = record { is = (rw (← state-start) at (prepared-sized p)) .dpSigma }
 
-  -- all steps from there are the whole run
-  pub whole-run : {work cone cone' : List Float} {answer : Answer} {to : State} → Lent p work cone → cone' ≡ zeros (length cone) → Iterated p ns (stateOf x' y' dpTau' dpSigma' rx tx cone') answer to → AsEnded (run p) answer to
-  whole-run {work} {cone} {cone'} {answer} {to} l e i =
+  ready-to-step : {work cone cone' : List Float} → Lent p work cone → cone' ≡ zeros (length cone) → StepReady (p .par) (shapeOf p) (p .c) (p .a) (p .b) (p .words) (stateOf x' y' dpTau' dpSigma' rx tx cone')
+  ready-to-step l e =
+      let r = l .ready in
+      record {
+        operators = r .operators;
+        cones = record { within = r .operators .m-within; readable = r .readable; places = r .places; sweeps = r .sweeps; enough = omega (arith, cleared-long l e) };
+        x-like = prepared-x;
+        y-like = prepared-y;
+        tau-like = prepared-tau;
+        sigma-like = prepared-sigma;
+        rx-like = zero-rx z;
+        tx-like = zero-tx z;
+      }
+
+  -- the piece from there, with all of the allowance, is the whole run
+  whole-run : {work cone cone' : List Float} {ns : Norms} → Lent p work cone → cone' ≡ zeros (length cone) → ns ≡ norms (embed p) x → run p ≡ endedBy (pieceOf p ns 0 (p .par .«max_iter») (stateOf x' y' dpTau' dpSigma' rx tx cone'))
+  whole-run {cone' = cone'} {ns} l e n =
       let from : stateOf x' y' dpTau' dpSigma' rx tx cone' ≡ prepared p = prepared-is z q cone' (e ∙ rw (l .cone-long)) in
-      let all : runFrom (allowance (p .par)) p ns 1 0 (stateOf x' y' dpTau' dpSigma' rx tx cone') ≡ run p = rw (from, norms-start) (sym (whole-is p)) in
-      rw all at i
+      let start : ns ≡ preparedNorms p = n ∙ rw (z .x-zero) in
+      rw (from, start) (run-is p)
 
 -- ---- after the last step
 
-module _ {p : Problem} {answer : Answer} {x y dpTau dpSigma rx tx cone work x' work' cone' : List Float} (i : AsEnded (run p) answer (stateOf x y dpTau dpSigma rx tx cone)) (n : length cone ≡ coneWork (blocks p)) (b : Settled (p .m) (p .n) x y dpTau dpSigma rx tx work (answer .ending) cone x' work' cone') where
-  pub ran-in : RanIn p work answer work' cone'
+module _ {p : Problem} {e : Piece} {ran : Iterated} {answer : Answer} {x y dpTau dpSigma rx tx cone work x' work' cone' : List Float} (whole : run p ≡ endedBy e) (i : RanBy e ran (stateOf x y dpTau dpSigma rx tx cone)) (same : answer ≡ answerOf (endedBy e)) (n : length cone ≡ coneWork (blocks p)) (b : Settled (p .m) (p .n) x y dpTau dpSigma rx tx work (answer .ending) cone x' work' cone') where
+  ran-in : RanIn p work answer work' cone'
   ran-in = go (isConeFailure (run p .ending)) refl
     where
-      answered-is : answer ≡ record { ending = run p .ending; steps = run p .steps; rotations = run p .rotations }
-      answered-is = λ j. record { ending = i .ending-is j; steps = i .steps-are j; rotations = i .rotations-are j }
+      answered-is : answer ≡ answerOf (run p)
+      answered-is = rw whole same
+
+      ending-is : answer .ending ≡ run p .ending
+      ending-is = rw answered-is
 
       w' : work' ≡ cond (isConeFailure (run p .ending)) (zeros (workLength (p .m) (p .n))) (laidOut p (run p .ending) (stateOf x y dpTau dpSigma rx tx cone)) ++ drop (workLength (p .m) (p .n)) work
-      w' = rw (final-finished p (run p .ending) x) (rw (i .ending-is) at (b .work-is))
+      w' = rw (final-finished p (run p .ending) x) (rw ending-is at (b .work-is))
 
       k' : cone' ≡ cond (isConeFailure (run p .ending)) (zeros (length cone)) cone
-      k' = rw (i .ending-is) at (b .cone-is)
+      k' = rw ending-is at (b .cone-is)
 
       go : (t : Bool) → isConeFailure (run p .ending) ≡ t → RanIn p work answer work' cone'
-      go true e = record { answered = answered-is; work-is = rw e (rw e at w'); cone-is = rw e (rw (e, n) at k') }
-      go false e =
-          let s : stateOf x y dpTau dpSigma rx tx cone ≡ run p .state = i .state-is e in
-          record { answered = answered-is; work-is = rw (e, ← s) (rw e at w'); cone-is = rw (e, ← s) (rw e at k') }
+      go true f = record { answered = answered-is; work-is = rw f (rw f at w'); cone-is = rw f (rw (f, n) at k') }
+      go false f =
+          let s : stateOf x y dpTau dpSigma rx tx cone ≡ run p .state = rw whole (i .state-is (rw whole at f)) in
+          record { answered = answered-is; work-is = rw (f, ← s) (rw f at w'); cone-is = rw (f, ← s) (rw f at k') }
+
+-- ---- all of it: cleared, prepared, stepped and settled
+
+module _ {shape : Shape} {c a b : List Float} {words : List ℕ} {par : SolverParam} {x y tau sigma rx tx : List Float} {prepared-as : Prepared} {x₁ y₁ tau₁ sigma₁ work cone cone₁ : List Float} {ns : Norms} {ran : Iterated} {x₂ y₂ rx₂ tx₂ cone₂ : List Float} {answer : Answer} {fits : Bool} {x₃ work' cone' : List Float} where
+  pub run-whole : Lent (problemIn shape c a b words par) work cone → AtZero shape x y tau sigma rx tx
+      → cone₁ ≡ zeros (length cone)
+      → PreparedOutcome (problemIn shape c a b words par) x y tau sigma prepared-as x₁ y₁ tau₁ sigma₁ → ((n : Norms) → prepared-as ≡ Done n → ns ≡ n)
+      → IterateOutcome (stepFits par shape c a b words (stateOf x₁ y₁ tau₁ sigma₁ rx tx cone₁)) (problemIn shape c a b words par) ns 0 (par .«max_iter») (stateOf x₁ y₁ tau₁ sigma₁ rx tx cone₁) ran (stateOf x₂ y₂ tau₁ sigma₁ rx₂ tx₂ cone₂)
+      → ((said : Verdict) (k q : ℕ) → ran ≡ Made said k q → answer ≡ answerBy said k q)
+      → SettleOutcome (shape .rows .0) (shape .cols .0) x₂ y₂ tau₁ sigma₁ rx₂ tx₂ work (answer .ending) cone₂ fits x₃ work' cone'
+      → length x₂ ≡ length x₁ → length y₂ ≡ length y₁ → length rx₂ ≡ length rx → length tx₂ ≡ length tx → length cone₂ ≡ length cone₁
+      → RanIn (problemIn shape c a b words par) work answer work' cone'
+  run-whole lent z cleared prepares norms-are steps answers settles kept-x kept-y kept-rx kept-tx kept-cone =
+      let r = lent .ready in
+      let q = prepared-where-fits prepares (r .operators) (covers r) (zero-x z) (zero-y z) (zero-tau z) (zero-sigma z) in
+      let i = ran-where-fits steps (ready-to-step z q lent cleared) in
+      let whole = whole-run z q lent cleared (norms-are _ (q .answer-is)) in
+      ran-in whole i (answers _ _ _ (i .answer-is)) (kept-cone ∙ cleared-long lent cleared) (settled-if-fitting
+      (record {
+        m-within = r .operators .m-within;
+        n-within = r .operators .n-within;
+        x-long = kept-x ∙ prepared-x z q .is;
+        y-long = kept-y ∙ prepared-y z q .is;
+        tau-long = prepared-tau z q .is;
+        sigma-long = prepared-sigma z q .is;
+        rx-long = kept-rx ∙ zero-rx z .is;
+        tx-long = kept-tx ∙ zero-tx z .is;
+        work-long = lent .work-long;
+      })
+      settles)
+
+-- ---- what an answer holds
+
+pub done-once : {v w : Norms} → Done v ≡ Done w → v ≡ w
+done-once e = cc
+
+pub none-done : {v : Norms} → No ≡ Done v → ⊥
+none-done e = let z : _≡_ {A = ℕ} 0 1 = cc in omega arith
+
+-- of a piece that ended, of one that halted, and of none
+pub answer-ends : {v w : Verdict} {k q l r : ℕ} {x : Ending} → Made v k q ≡ Made w l r → v ≡ Ends x → record { ending = x; steps = k; rotations = q } ≡ answerBy w l r
+answer-ends {v} {w} {k} {q} {l} {r} {x} h is =
+    let said-is : w ≡ Ends x = cc in
+    let steps-are : k ≡ l = cc in
+    let rotations-are : q ≡ r = cc in
+    rw (said-is, steps-are, rotations-are)
+
+pub answer-halts : {v w : Verdict} {k q l r : ℕ} → Made v k q ≡ Made w l r → v ≡ GoesOn → record { ending = ConeFailure 0; steps = k; rotations = q } ≡ answerBy w l r
+answer-halts {v} {w} {k} {q} {l} {r} h is =
+    let said-is : w ≡ GoesOn = cc in
+    let steps-are : k ≡ l = cc in
+    let rotations-are : q ≡ r = cc in
+    rw (said-is, steps-are, rotations-are)
+
+pub none-made : {v : Verdict} {k q : ℕ} → NoRun ≡ Made v k q → ⊥
+none-made e = let z : _≡_ {A = ℕ} 0 1 = cc in omega arith

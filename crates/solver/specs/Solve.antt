@@ -6,20 +6,17 @@ use mathlib.Core.List.{List, _++_}
 use lib.Ieee.{Float}
 use lib.ListN.{length, drop}
 use Rattle.rules.specs.declared.Answer.{Answer}
-use Rattle.rules.specs.declared.Norms.{Norms}
 use Rattle.rules.specs.declared.Shape.{Shape}
-use Rattle.rules.specs.Vectors.{scaled}
-use Rattle.rules.specs.Arithmetic.{+0}
+use Rattle.rules.specs.declared.Verdict.{Verdict}
 use Rattle.rules.specs.Limits.{mostSteps}
 use Rattle.rules.specs.Blocks.{hasBadWord, totalPlaces}
 use Rattle.rules.specs.Projections.{sweepsFit}
 use Rattle.rules.specs.Product.{coneWork}
-use Rattle.rules.specs.Problem.{Problem, embed, blocks, lengthX, lengthY, workLength}
-use Rattle.rules.specs.Prepare.{norms, startX, dpTauOf, dpSigmaOf, zeros}
-use Rattle.rules.specs.Run.{run, laidOut, isConeFailure, leftBy}
-use Rattle.shape.specs.Fitting.{Fits, LikeX, LikeY}
+use Rattle.rules.specs.Problem.{Problem, blocks, lengthX, lengthY, workLength}
+use Rattle.rules.specs.Prepare.{zeros}
+use Rattle.rules.specs.Run.{endingOf, Ended, run, laidOut, isConeFailure, leftBy}
+use Rattle.shape.specs.Fitting.{Fits}
 use Rattle.rules.specs.Problem.{shapeOf}
-use Rattle.precond.specs.Precond.{Covers}
 
 -- a problem that was not turned away, as the run reads it
 pub record Ready (p : Problem) : Type 0 where
@@ -27,24 +24,6 @@ pub record Ready (p : Problem) : Type 0 where
   pub readable : hasBadWord (p .words) ≡ false
   pub places : totalPlaces (blocks p) ≡ p .m
   pub sweeps : sweepsFit (p .par) ≡ true
-
--- ---- before the first step
-
-pub record CanPrepare (shape : Shape) (c a b : List Float) (words : List ℕ) (x y dpTau dpSigma : List Float) : Type 0 where
-  pub operators : Fits shape c a b
-  pub covers : Covers shape words
-  pub x-like : LikeX shape x
-  pub y-like : LikeY shape y
-  pub tau-like : LikeX shape dpTau
-  pub sigma-like : LikeY shape dpSigma
-
--- from the four vectors as they were
-pub record PreparedAs (p : Problem) (x y dpTau : List Float) (ns : Norms) (x' y' dpTau' dpSigma' : List Float) : Type 0 where
-  pub norms-are : ns ≡ norms (embed p) x
-  pub x-is : x' ≡ startX (embed p) x
-  pub y-is : y' ≡ scaled +0 y
-  pub tau-is : dpTau' ≡ dpTauOf p dpTau
-  pub sigma-is : dpSigma' ≡ dpSigmaOf p dpTau
 
 -- ---- a run
 
@@ -64,9 +43,16 @@ pub record AtZero (shape : Shape) (x y dpTau dpSigma rx tx : List Float) : Type 
   pub rx-zero : rx ≡ zeros (lengthX (shape .rows .0) (shape .cols .0))
   pub tx-zero : tx ≡ zeros (lengthX (shape .rows .0) (shape .cols .0))
 
+abbrev pub answerOf : Ended → Answer
+answerOf e = record { ending = e .ending; steps = e .steps; rotations = e .rotations }
+
+-- the same of what a piece of a run answers
+abbrev pub answerBy : Verdict → ℕ → ℕ → Answer
+answerBy said k q = record { ending = endingOf said; steps = k; rotations = q }
+
 -- what the whole run leaves; of cone work the required part
 pub record RanIn (p : Problem) (work : List Float) (answer : Answer) (work' cone' : List Float) : Type 0 where
-  pub answered : answer ≡ record { ending = run p .ending; steps = run p .steps; rotations = run p .rotations }
+  pub answered : answer ≡ answerOf (run p)
   pub work-is : work' ≡ cond (isConeFailure (run p .ending)) (zeros (workLength (p .m) (p .n))) (laidOut p (run p .ending) (run p .state)) ++ drop (workLength (p .m) (p .n)) work
   pub cone-is : cone' ≡ cond (isConeFailure (run p .ending)) (zeros (coneWork (blocks p))) (run p .state .cone)
 

@@ -1,12 +1,20 @@
 // An accepted run, in vectors and buffers that were made for it.
-use crate::run;
+use iterate::Iterated;
 use prepare::Prepared;
 use rules::Answer;
+use rules::Ending;
 use rules::Norms;
 use rules::Shape;
 use rules::SolverParam;
+use rules::Verdict;
+ghost use Prim.Native.Nat.{ℕ};
+ghost use mathlib.Core.Path.{_≡_};
+ghost use Rattle.rules.specs.declared.Norms.{Norms};
+ghost use Rattle.rules.specs.declared.Verdict.{Verdict};
 ghost use Rattle.rules.specs.Problem.{problemIn};
-ghost use Rattle.solver.specs.Solve.{CanPrepare, PreparedAs, Lent, AtZero, RanIn};
+ghost use Rattle.prepare.specs.declared.Prepared.the-variants.{Done};
+ghost use Rattle.iterate.specs.declared.Iterated.the-variants.{Made};
+ghost use Rattle.solver.specs.Solve.{Lent, AtZero, answerBy, RanIn};
 
 // The whole run, with its six vectors at zero.
 pub(crate) fn run_in(
@@ -32,9 +40,11 @@ pub(crate) fn run_in(
         (now (work .entry)) r (now (work .exit)) (now («cone_work» .exit))
         ⌝ }
 {
-    settle::clear(cone_work);
-    let norms = prepare_all(par, shape, c, a, b, words, x, y, dp_tau, dp_sigma);
-    let answer = run::iterate(
+    linalg::clear(cone_work);
+    let prepared = prepare::prepare(par, shape, c, a, b, words, x, y, dp_tau, dp_sigma);
+    let norms = norms_of(prepared);
+    let given = par.max_iter as u32;
+    let ran = iterate::iterate(
         par,
         shape,
         c,
@@ -42,6 +52,8 @@ pub(crate) fn run_in(
         b,
         words,
         norms,
+        0,
+        given,
         x,
         y,
         dp_tau,
@@ -50,6 +62,7 @@ pub(crate) fn run_in(
         tx,
         cone_work,
     );
+    let answer = answer_of(ran);
     let ending = answer.ending;
     let rows = shape.rows;
     let cols = shape.cols;
@@ -69,30 +82,40 @@ pub(crate) fn run_in(
     answer
 }
 
-// The norms, the first x and y, and the two diagonals.
-fn prepare_all(
-    par: SolverParam,
-    shape: Shape,
-    c: &[f64],
-    a: &[f64],
-    b: &[f64],
-    words: &[u16],
-    x: &mut [f64],
-    y: &mut [f64],
-    dp_tau: &mut [f64],
-    dp_sigma: &mut [f64],
-) -> Norms
-    requires { ⌜ CanPrepare shape (now c) (now a) (now b) (now words) (now x) (now y) (now «dp_tau») (now «dp_sigma») ⌝ }
-    ensures { λ r. ⌜
-        PreparedAs (problemIn shape (now (c .entry)) (now (a .entry)) (now (b .entry)) (now (words .entry)) par)
-        (now (x .entry)) (now (y .entry)) (now («dp_tau» .entry)) r (now (x .exit)) (now (y .exit))
-        (now («dp_tau» .exit)) (now («dp_sigma» .exit))
-        ⌝ }
+// The norms, of one that was prepared.
+fn norms_of(prepared: Prepared) -> Norms
+    ensures { λ r. ⌜ ((ns : Norms) → prepared ≡ Done ns → r ≡ ns) ⌝ }
 {
-    let prepared = prepare::prepare(par, shape, c, a, b, words, x, y, dp_tau, dp_sigma);
     match prepared {
         Prepared::Done(norms) => norms,
         // the sizes always fit here
         Prepared::No => Norms { b: 0.0, c: 0.0 },
+    }
+}
+
+// The answer, of steps that were taken: what the last one said, with their number and their rotations.
+fn answer_of(ran: Iterated) -> Answer
+    ensures { λ r. ⌜ ((said : Verdict) (k q : ℕ) → ran ≡ Made said k q → r ≡ answerBy said k q) ⌝ }
+{
+    match ran {
+        Iterated::Made(v, k, q) => match v {
+            Verdict::Ends(e) => Answer {
+                ending: e,
+                steps: k,
+                rotations: q,
+            },
+            // with all of the allowance a run always ends
+            Verdict::GoesOn => Answer {
+                ending: Ending::ConeFailure(0),
+                steps: k,
+                rotations: q,
+            },
+        },
+        // the sizes always fit here
+        Iterated::No => Answer {
+            ending: Ending::ConeFailure(0),
+            steps: 0,
+            rotations: 0,
+        },
     }
 }

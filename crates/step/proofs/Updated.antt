@@ -4,7 +4,7 @@ use mathlib.Core.Path.{_≡_, refl, sym, _∙_}
 use mathlib.Core.Bool.{true}
 use mathlib.Core.List.{List, _++_}
 use lib.Ieee.{Float, neg}
-use lib.ListN.{drop, set}
+use lib.ListN.{length, drop, set}
 use Rattle.rules.specs.declared.Shape.{Shape}
 use Rattle.rules.specs.declared.SolverParam.{SolverParam}
 use Rattle.rules.specs.declared.Product.{Product}
@@ -16,8 +16,10 @@ use Rattle.rules.specs.Product.{none, block, productAnswer, ProductOutcome}
 use Rattle.rules.specs.Problem.{Problem, embed, lengthY, problemIn, embedIn}
 use Rattle.rules.specs.Step.{State, transOpK, movedX, projected, tauTaken, movedY, updated}
 use Rattle.step.specs.Moves.{XMoved, YMoved, takenIn, nextRx, nextTy, nextY}
-use Rattle.step.specs.Update.{stateOf, stopped, stepped, StepOutcome}
-use Rattle.project.specs.Project.{projectedIn}
+use Rattle.step.specs.Update.{stateOf, stopped, stepped, StepReady, StepOutcome}
+use Rattle.shape.proofs.Fitting.{sizes-within}
+use Rattle.project.specs.Project.{projectFits, projectedIn}
+use Rattle.project.proofs.Ready.{project-fits, projected-true}
 use Rattle.project.proofs.Cones.{answer-done, answer-failed, answer-some}
 
 -- ---- each rule, with its arguments written out
@@ -64,36 +66,40 @@ stopped-left : (p : Problem) (s : State) (b : ℕ) → updated p s .failure ≡ 
 unfolding stepped
 stopped-left p s b e = rw e
 
-module _ (par : SolverParam) (shape : Shape) (c a b : List Float) (words : List ℕ) (x y dpTau dpSigma rx tx cone : List Float) {x₁ rx₁ tx₁ : List Float} (f : XMoved (embedIn shape c a b) x y dpTau tx x₁ rx₁ tx₁) where
+-- ---- all of it, for a caller that has what a step asks: what each answer of the projection makes of the step
+
+module _ {par : SolverParam} {shape : Shape} {c a b : List Float} {words : List ℕ} {x y dpTau dpSigma rx tx cone x₁ rx₁ tx₁ : List Float} {answer : Product} {x₂ cone₂ : List Float} (r : StepReady par shape c a b words (stateOf x y dpTau dpSigma rx tx cone)) (f : XMoved (embedIn shape c a b) x y dpTau tx x₁ rx₁ tx₁) (as-long : length x₁ ≡ length x) (projects : ProductOutcome (projectFits par shape words x₁ cone) (projectedIn par shape words x₁ cone) x₁ cone answer x₂ cone₂) where
   abbrev p : Problem
   p = problemIn shape c a b words par
 
   abbrev from : State
   from = stateOf x y dpTau dpSigma rx tx cone
 
+  abbrev taken : State
+  taken = stateOf (takenIn shape x₂) y dpTau dpSigma rx₁ tx₁ cone₂
+
   moved : movedX p from ≡ stateOf x₁ y dpTau dpSigma rx₁ tx₁ cone
   moved = rw (f .x-is, f .rx-is, f .tx-is) (x-rule p x y dpTau dpSigma rx tx cone)
 
-  module _ {answer : Product} {x₂ cone₂ : List Float} (o : ProductOutcome true (projectedIn par shape words x₁ cone) x₁ cone answer x₂ cone₂) where
-    abbrev taken : State
-    taken = stateOf (takenIn shape x₂) y dpTau dpSigma rx₁ tx₁ cone₂
+  outcome : ProductOutcome true (projectedIn par shape words x₁ cone) x₁ cone answer x₂ cone₂
+  outcome = projected-true projects (project-fits {x = x₁} cone (sizes-within (r .operators)) (record { is = as-long ∙ r .x-like .is }) (r .cones))
 
-    step-rule : updated p from ≡ record { state = movedY p taken; rotations = projectedIn par shape words x₁ cone .rotations; failure = projectedIn par shape words x₁ cone .failure }
-    step-rule = updated-rule p from ∙ rw (moved, projected-rule shape c a b words par x₁ cone, tau-rule shape c a b words par, o .cone-left, o .work-left)
+  step-rule : updated p from ≡ record { state = movedY p taken; rotations = projectedIn par shape words x₁ cone .rotations; failure = projectedIn par shape words x₁ cone .failure }
+  step-rule = updated-rule p from ∙ rw (moved, projected-rule shape c a b words par x₁ cone, tau-rule shape c a b words par, outcome .cone-left, outcome .work-left)
 
-    said : answer ≡ productAnswer (updated p from .rotations) (updated p from .failure)
-    said = rw step-rule (o .answered)
+  said : answer ≡ productAnswer (updated p from .rotations) (updated p from .failure)
+  said = rw step-rule (outcome .answered)
 
-    pub step-some : answer ≡ No → ⊥
-    step-some is = answer-some (updated p from .rotations) (updated p from .failure) (sym is ∙ said)
+  pub step-some : answer ≡ No → ⊥
+  step-some is = answer-some (updated p from .rotations) (updated p from .failure) (sym is ∙ said)
 
-    pub step-failed : (block q : ℕ) → answer ≡ Failed block q → StepOutcome true p from (Failed block q) (stateOf x₂ y dpTau dpSigma rx₁ tx₁ cone₂)
-    step-failed number q is =
-        let s = answer-failed (updated p from .rotations) (updated p from .failure) number q (sym is ∙ said) .0 in
-        let stops : stopped p from ≡ stateOf x₂ y dpTau dpSigma rx₁ tx₁ cone₂ = stopped-rule p from ∙ rw (moved, projected-rule shape c a b words par x₁ cone, o .cone-left, o .work-left) in
-        record { answered = sym is ∙ said; left = sym (stopped-left p from number s ∙ stops) }
+  pub step-failed : {number q : ℕ} → answer ≡ Failed number q → StepOutcome true p from (Failed number q) (stateOf x₂ y dpTau dpSigma rx₁ tx₁ cone₂)
+  step-failed {number} {q} is =
+      let s = answer-failed (updated p from .rotations) (updated p from .failure) number q (sym is ∙ said) .0 in
+      let stops : stopped p from ≡ stateOf x₂ y dpTau dpSigma rx₁ tx₁ cone₂ = stopped-rule p from ∙ rw (moved, projected-rule shape c a b words par x₁ cone, outcome .cone-left, outcome .work-left) in
+      record { answered = sym is ∙ said; left = sym (stopped-left p from number s ∙ stops) }
 
-    pub step-done : (q : ℕ) → answer ≡ Done q → {x₃ y₄ rx₄ tx₄ : List Float} → x₃ ≡ takenIn shape x₂ → YMoved (embedIn shape c a b) x₃ y dpSigma rx₁ tx₁ y₄ rx₄ tx₄ → StepOutcome true p from (Done q) (stateOf x₃ y₄ dpTau dpSigma rx₄ tx₄ cone₂)
-    step-done q is {x₃} t g =
-        let s = answer-done (updated p from .rotations) (updated p from .failure) q (sym is ∙ said) .0 in
-        record { answered = sym is ∙ said; left = sym (none-left p from s ∙ rw (step-rule, ← t, y-rule p x₃ y dpTau dpSigma rx₁ tx₁ cone₂, g .y-is, g .rx-is, g .tx-is)) }
+  pub step-done : {q : ℕ} {x₃ y₄ rx₄ tx₄ : List Float} → answer ≡ Done q → x₃ ≡ takenIn shape x₂ → YMoved (embedIn shape c a b) x₃ y dpSigma rx₁ tx₁ y₄ rx₄ tx₄ → StepOutcome true p from (Done q) (stateOf x₃ y₄ dpTau dpSigma rx₄ tx₄ cone₂)
+  step-done {q} {x₃} is t g =
+      let s = answer-done (updated p from .rotations) (updated p from .failure) q (sym is ∙ said) .0 in
+      record { answered = sym is ∙ said; left = sym (none-left p from s ∙ rw (step-rule, ← t, y-rule p x₃ y dpTau dpSigma rx₁ tx₁ cone₂, g .y-is, g .rx-is, g .tx-is)) }

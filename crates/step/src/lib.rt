@@ -1,11 +1,11 @@
 // One step: update_vecs of solver.rs.
-use product::product_fits;
 use rules::Product;
 use rules::Shape;
 use rules::SolverParam;
 use shape::fits_x;
 use shape::fits_y;
 use shape::operators_fit;
+use words::product_fits;
 ghost use Prim.Native.Nat.{_≤_};
 ghost use mathlib.Core.Path.{_≡_};
 ghost use mathlib.Core.Bool.{true};

@@ -5,19 +5,24 @@ use mathlib.Core.Path.{_≡_, refl, sym, _∙_}
 use mathlib.Core.Bool.{Bool, true, false}
 use mathlib.Core.List.{List}
 use lib.Ieee.{Float}
+use lib.ListN.{length}
 use Rattle.rules.specs.declared.Ending.the-variants.{ConeFailure}
 use Rattle.rules.specs.declared.Norms.{Norms}
+use Rattle.rules.specs.declared.Shape.{Shape}
+use Rattle.rules.specs.declared.SolverParam.{SolverParam}
 use Rattle.rules.specs.declared.Product.{Product}
 use Rattle.rules.specs.declared.Product.the-variants.{Done, Failed, No as NoProduct}
 use Rattle.rules.specs.declared.Verdict.{Verdict}
 use Rattle.rules.specs.declared.Verdict.the-variants.{Ends}
 use Rattle.rules.specs.Product.{none, block}
-use Rattle.rules.specs.Problem.{Problem, embed}
+use Rattle.rules.specs.Problem.{Problem, embed, problemIn, embedIn}
 use Rattle.rules.specs.Step.{State, updated}
 use Rattle.rules.specs.Criteria.{judged}
 use Rattle.rules.specs.Run.{wholeStep, verdict}
 use Rattle.project.proofs.Cones.{answer-done, answer-failed, answer-some}
-use Rattle.step.specs.Update.{stateOf, stepped, StepOutcome}
+use Rattle.shape.specs.Fitting.{Fits, LikeX}
+use Rattle.step.specs.Update.{stateOf, stepped, stepFits, StepOutcome}
+use Rattle.step.proofs.Ready.{fits-ready, step-true}
 use Rattle.step.proofs.Updated.{none-left}
 use Rattle.whole_step.specs.declared.StepAnswer.{StepAnswer}
 use Rattle.whole_step.specs.declared.StepAnswer.the-variants.{Said, No}
@@ -56,7 +61,7 @@ module _ (p : Problem) (ns : Norms) (s : State) where
   one-failed b f = rw (step-failure, f)
 
   module _ (k : ℕ) (v : State) {answer : Product} (u : StepOutcome true p s answer v) where
-    pub step-done : (q : ℕ) → answer ≡ Done q → (said : Verdict) → said ≡ verdict (p .par) k none (judged (embed p) (p .par .«eps_zero») ns (v .x) (v .rx) .criteria) → (rx' : List Float) → rx' ≡ judged (embed p) (p .par .«eps_zero») ns (v .x) (v .rx) .rx
+    step-done : (q : ℕ) → answer ≡ Done q → (said : Verdict) → said ≡ verdict (p .par) k none (judged (embed p) (p .par .«eps_zero») ns (v .x) (v .rx) .criteria) → (rx' : List Float) → rx' ≡ judged (embed p) (p .par .«eps_zero») ns (v .x) (v .rx) .rx
         → WholeStepOutcome true p ns k s (Said said q) (stateOf (v .x) (v .y) (v .dpTau) (v .dpSigma) rx' (v .tx) (v .cone))
     step-done q is said h rx' e =
         let f = answer-done (updated p s .rotations) (updated p s .failure) q (sym is ∙ u .answered) in
@@ -65,7 +70,7 @@ module _ (p : Problem) (ns : Norms) (s : State) where
         let counts = sym (f .1) ∙ sym step-rotations in
         record { answered = λ i. Said (says i) (counts i); left = rw e (step-state v same) ∙ sym (none-failed (f .0)) }
 
-    pub step-failed : (b q : ℕ) → answer ≡ Failed b q → WholeStepOutcome true p ns k s (Said (Ends (ConeFailure b)) q) v
+    step-failed : (b q : ℕ) → answer ≡ Failed b q → WholeStepOutcome true p ns k s (Said (Ends (ConeFailure b)) q) v
     step-failed b q is =
         let f = answer-failed (updated p s .rotations) (updated p s .failure) b q (sym is ∙ u .answered) in
         let counts = sym (f .1) ∙ sym step-rotations in
@@ -73,20 +78,20 @@ module _ (p : Problem) (ns : Norms) (s : State) where
 
 -- ---- a step that answers anything but no has sizes that fit
 
-pub some-fits : {fits : Bool} {p : Problem} {s : State} {answer : Product} {v : State} → StepOutcome fits p s answer v → (answer ≡ NoProduct → ⊥) → fits ≡ true
+some-fits : {fits : Bool} {p : Problem} {s : State} {answer : Product} {v : State} → StepOutcome fits p s answer v → (answer ≡ NoProduct → ⊥) → fits ≡ true
 some-fits {fits} o h = go fits o h
   where
     go : (t : Bool) {p : Problem} {s : State} {answer : Product} {v : State} → StepOutcome t p s answer v → (answer ≡ NoProduct → ⊥) → t ≡ true
     go true o h = refl
     go false o h = absurd (h (o .answered))
 
-pub done-is-some : {q : ℕ} → Done q ≡ NoProduct → ⊥
+done-is-some : {q : ℕ} → Done q ≡ NoProduct → ⊥
 done-is-some e = let z : _≡_ {A = ℕ} 0 1 = cc in omega arith
 
-pub failed-is-some : {b q : ℕ} → Failed b q ≡ NoProduct → ⊥
+failed-is-some : {b q : ℕ} → Failed b q ≡ NoProduct → ⊥
 failed-is-some e = let z : _≡_ {A = ℕ} 0 1 = cc in omega arith
 
-pub no-fits-not : {fits : Bool} {p : Problem} {s : State} {answer : Product} {v : State} → StepOutcome fits p s answer v → answer ≡ NoProduct → fits ≡ false
+no-fits-not : {fits : Bool} {p : Problem} {s : State} {answer : Product} {v : State} → StepOutcome fits p s answer v → answer ≡ NoProduct → fits ≡ false
 no-fits-not {fits} o is = go fits o is
   where
     go : (t : Bool) {p : Problem} {s : State} {answer : Product} {v : State} → StepOutcome t p s answer v → answer ≡ NoProduct → t ≡ false
@@ -96,11 +101,47 @@ no-fits-not {fits} o is = go fits o is
 -- ---- the outcome
 
 module _ {fits : Bool} {p : Problem} {ns : Norms} {k : ℕ} {s : State} where
-  pub whole-refused : {v : State} → fits ≡ false → v ≡ s → WholeStepOutcome fits p ns k s No v
+  whole-refused : {v : State} → fits ≡ false → v ≡ s → WholeStepOutcome fits p ns k s No v
   whole-refused e same = record { answered = rw e; left = rw e same }
 
-  pub whole-taken : {answer : StepAnswer} {v : State} → fits ≡ true → WholeStepOutcome true p ns k s answer v → WholeStepOutcome fits p ns k s answer v
+  whole-taken : {answer : StepAnswer} {v : State} → fits ≡ true → WholeStepOutcome true p ns k s answer v → WholeStepOutcome fits p ns k s answer v
   whole-taken e o = record { answered = rw e (o .answered); left = rw e (o .left) }
 
   pub whole-steps-coincide : {a b : StepAnswer} {v w : State} → WholeStepOutcome fits p ns k s a v → WholeStepOutcome fits p ns k s b w → (a ≡ b) × (v ≡ w)
   whole-steps-coincide o q = (o .answered ∙ sym (q .answered), o .left ∙ sym (q .left))
+
+-- ---- all of it, from what `update_vecs` left: what each answer of its makes of the whole step
+
+module _ (par : SolverParam) (shape : Shape) (c a b : List Float) (words : List ℕ) (ns : Norms) (k : ℕ) (x y dpTau dpSigma rx tx cone : List Float) {answer : Product} {x₁ y₁ rx₁ tx₁ cone₁ : List Float} (u : StepOutcome (stepFits par shape c a b words (stateOf x y dpTau dpSigma rx tx cone)) (problemIn shape c a b words par) (stateOf x y dpTau dpSigma rx tx cone) answer (stateOf x₁ y₁ dpTau dpSigma rx₁ tx₁ cone₁)) where
+  abbrev from : State
+  from = stateOf x y dpTau dpSigma rx tx cone
+
+  abbrev to : State
+  to = stateOf x₁ y₁ dpTau dpSigma rx₁ tx₁ cone₁
+
+  abbrev Outcome : StepAnswer → State → Type 0
+  Outcome said v = WholeStepOutcome (stepFits par shape c a b words from) (problemIn shape c a b words par) ns k from said v
+
+  fits-done : {q : ℕ} → answer ≡ Done q → stepFits par shape c a b words from ≡ true
+  fits-done is = some-fits u (λ e. done-is-some (sym is ∙ e))
+
+  -- a step that is done leaves what the criteria ask
+  pub judge-ready : {q : ℕ} → answer ≡ Done q → length x₁ ≡ length x → length rx₁ ≡ length rx → Fits shape c a b × (LikeX shape x₁ × LikeX shape rx₁)
+  judge-ready is kept-x kept-rx =
+      let f = fits-ready par shape c a b words from (fits-done is) in
+      (f .operators, (record { is = kept-x ∙ f .x-like .is }, record { is = kept-rx ∙ f .rx-like .is }))
+
+  pub whole-done : {q : ℕ} {said : Verdict} {rx₂ : List Float} → answer ≡ Done q → said ≡ verdict par k none (judged (embedIn shape c a b) (par .«eps_zero») ns x₁ rx₁ .criteria) → rx₂ ≡ judged (embedIn shape c a b) (par .«eps_zero») ns x₁ rx₁ .rx → Outcome (Said said q) (stateOf x₁ y₁ dpTau dpSigma rx₂ tx₁ cone₁)
+  whole-done {q} {said} {rx₂} is h e =
+      let fits = fits-done is in
+      whole-taken fits (step-done (problemIn shape c a b words par) ns from k to (step-true u fits) q is said h rx₂ e)
+
+  pub whole-failed : {number q : ℕ} → answer ≡ Failed number q → Outcome (Said (Ends (ConeFailure number)) q) to
+  whole-failed {number} {q} is =
+      let fits = some-fits u (λ e. failed-is-some (sym is ∙ e)) in
+      whole-taken fits (step-failed (problemIn shape c a b words par) ns from k to (step-true u fits) number q is)
+
+  pub whole-no : answer ≡ NoProduct → Outcome No to
+  whole-no is =
+      let no = no-fits-not u is in
+      whole-refused no (rw no at (u .left))

@@ -2,8 +2,9 @@
 use borrow.Author.Needs.{needs}
 use mathlib.Core.Path.{sym, _∙_}
 use borrow.Author.Tests.{not-true, not-false}
-use Rattle.rules.proofs.Outcome.{block-refused, block-done}
+use Rattle.rules.proofs.Outcome.{block-refused, block-done, ruled-if-fits}
 use Rattle.rules.specs.Projections.{projBlock}
+use Rattle.cone.proofs.Within.{within}
 use Rattle.cone.proofs.proj.Statement.{statement}
 use Rattle.cone.proofs.proj.Tie as tie
 
@@ -62,14 +63,20 @@ same-length-3 c = search needs
 
 returns-4 : tie.Need-returns-4
 unfolding projBlock
-returns-4 c = block-done (sym (c .before .before .before .before .before .before .before .block-fits .ensures) ∙ not-false _ (c .before .before .before .before .before .before .if1 .left)) (rw (c .before .before .before .before .enum-told3 .given .1, c .before .before .proj-soc .ensures .0))
+returns-4 c =
+    let s = c .before .before .before .before .before .before .before .before .before .before in
+    let fit = sym (c .before .before .before .before .before .before .before .block-fits .ensures) ∙ not-false _ (c .before .before .before .before .before .before .if1 .left) in
+    block-done fit (rw (c .before .before .before .before .enum-told3 .given .1, ruled-if-fits (c .before .before .proj-soc .ensures) (within (s .args .par) (s .args .cone) (s .args .x .now) (s .args .work .now) fit)))
 
 same-length-4 : tie.Need-same-length-4
 same-length-4 c = search needs
 
 returns-5 : tie.Need-returns-5
 unfolding projBlock
-returns-5 c = block-done (sym (c .before .before .before .before .before .before .before .block-fits .ensures) ∙ not-false _ (c .before .before .before .before .before .before .if1 .left)) (rw (c .before .before .before .before .enum-told4 .given .1, c .before .before .proj-rotsoc .ensures))
+returns-5 c =
+    let s = c .before .before .before .before .before .before .before .before .before .before in
+    let fit = sym (c .before .before .before .before .before .before .before .block-fits .ensures) ∙ not-false _ (c .before .before .before .before .before .before .if1 .left) in
+    block-done fit (rw (c .before .before .before .before .enum-told4 .given .1, ruled-if-fits (c .before .before .proj-rotsoc .ensures) (within (s .args .par) (s .args .cone) (s .args .x .now) (s .args .work .now) fit)))
 
 same-length-5 : tie.Need-same-length-5
 same-length-5 c = search needs

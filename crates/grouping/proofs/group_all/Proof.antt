@@ -8,7 +8,7 @@ use Rattle.rules.specs.declared.Word.the-variants.{Block}
 use Rattle.rules.specs.Blocks.{readWord, places}
 use Rattle.rules.proofs.Blocks.{word-most}
 use Rattle.rules.proofs.ConeProduct.{Grouping, grouping-start, grouping-more, grouping-end, walk-no-bad, walk-places}
-use Rattle.words.proofs.Sayable.{sayable-places}
+use Rattle.block.proofs.Sayable.{sayable-places}
 use Rattle.grouping.proofs.group_all.Statement.{statement}
 use Rattle.grouping.proofs.group_all.Tie as tie
 

@@ -8,7 +8,7 @@ use Rattle.rules.proofs.Blocks.{word-most}
 use Rattle.rules.proofs.ConeProduct.{Projecting, projecting-start, projecting-end, projecting-more, projecting-failed, projecting-some, projecting-counts, projecting-counts-failed, walk-no-bad, walk-places}
 use Rattle.rules.specs.declared.Word.the-variants.{Block}
 use Rattle.rules.specs.Blocks.{readWord, places}
-use Rattle.words.proofs.Sayable.{sayable-places}
+use Rattle.block.proofs.Sayable.{sayable-places}
 use Rattle.product.proofs.proj_all.Statement.{statement}
 use Rattle.product.proofs.proj_all.Tie as tie
 

@@ -11,7 +11,7 @@ use Prim.Native.Nat.{max}
 use lib.ListN.{drop}
 use Rattle.rules.proofs.ConeProduct.{work-block, work-end}
 use mathlib.Core.Logic.{⊎-elim}
-use Rattle.words.proofs.Sayable.{sayable-work}
+use Rattle.block.proofs.Sayable.{sayable-work}
 use Rattle.words.proofs.cone_work_len.Statement.{statement}
 use Rattle.words.proofs.cone_work_len.Tie as tie
 

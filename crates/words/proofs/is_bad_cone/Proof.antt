@@ -7,7 +7,7 @@ use lib.ListN.{length}
 use Rattle.rules.proofs.Blocks.{word-most, bad-word, bad-long, bad-more, bad-end}
 use Rattle.rules.specs.Blocks.{isBadCone, places}
 use lib.ListN.{drop}
-use Rattle.words.proofs.Sayable.{sayable-places}
+use Rattle.block.proofs.Sayable.{sayable-places}
 use Rattle.words.proofs.is_bad_cone.Statement.{statement}
 use Rattle.words.proofs.is_bad_cone.Tie as tie
 

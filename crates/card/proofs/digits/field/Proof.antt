@@ -8,7 +8,8 @@ use mathlib.Core.List.{List}
 use lib.ListN.{length, getD}
 use Rattle.card.specs.Card.{bitsOfBytes}
 use Rattle.card.specs.Fields.{fieldAt}
-use Rattle.card.proofs.Bits.{bits-length, field-none, field-more, bit-room, bit-below}
+use Rattle.bits.proofs.Bits.{bits-length}
+use Rattle.card.proofs.Bits.{field-none, field-more, bit-room, bit-below}
 use Rattle.card.proofs.digits.field.Statement.{statement}
 use Rattle.card.proofs.digits.field.Tie as tie
 

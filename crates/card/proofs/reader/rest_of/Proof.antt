@@ -4,7 +4,7 @@ use native.Mathlib.Omega.{arith}
 use mathlib.Core.Path.{sym, _∙_}
 use lib.ListN.{length}
 use Rattle.card.specs.Card.{bitsOfBytes}
-use Rattle.card.proofs.Bits.{bits-length}
+use Rattle.bits.proofs.Bits.{bits-length}
 use Rattle.card.proofs.Rest.{rest-short, rest-padding, rest-more, rest-whole, total-is, answer-is}
 use Rattle.card.proofs.reader.rest_of.Statement.{statement}
 use Rattle.card.proofs.reader.rest_of.Tie as tie

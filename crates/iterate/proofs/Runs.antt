@@ -1,0 +1,84 @@
+-- A loop over whole steps is the rule's piece of a run, and what it leaves is its outcome.
+use Prim.Native.Nat.{ℕ, suc, _+_, _-_, _*_, _<_, _≤_, max}
+use native.Mathlib.Omega.{arith}
+use mathlib.Core.Path.{_≡_, refl, sym, _∙_}
+use mathlib.Core.Bool.{true}
+use Rattle.rules.specs.declared.Norms.{Norms}
+use Rattle.rules.specs.declared.Ending.{Ending}
+use Rattle.rules.specs.declared.Verdict.{Verdict}
+use Rattle.rules.specs.declared.Verdict.the-variants.{GoesOn, Ends}
+use Rattle.rules.specs.Problem.{Problem}
+use Rattle.rules.specs.Step.{State}
+use Rattle.rules.specs.Run.{wholeStep, verdict, stateFrom, goingOn, pieceFrom}
+use Rattle.rules.proofs.Run.{goes-on-exactly, piece-more, piece-none, no-steps, step-from, state-from}
+use Rattle.project.specs.Project.{ConesReady}
+use Rattle.whole_step.specs.WholeStep.{leftByStep}
+use Rattle.iterate.specs.declared.Iterated.the-variants.{Made}
+use Rattle.iterate.specs.Iterate.{pieceOf, IterateOutcome}
+use Rattle.iterate.proofs.Steps.{SteppedBy, perStep, step-within}
+
+-- With k steps behind, q rotations made and so many steps left to take: what is left equals the whole piece.
+pub record Running (p : Problem) (ns : Norms) (behind given : ℕ) (from : State) (k q left : ℕ) (s : State) : Type 0 where
+  pub least : behind ≤ k
+  pub rest : k + max left 1 ≡ behind + max given 1
+  pub within : q ≤ (k - behind) * perStep
+  pub there : s ≡ stateFrom p ns from (k - behind)
+  pub same : pieceFrom (max left 1) p ns k q s ≡ pieceOf p ns behind given from
+
+pub running-start : (p : Problem) (ns : Norms) (behind given : ℕ) (s : State) → Running p ns behind given s behind 0 given s
+running-start p ns behind given s =
+    let none-made : behind - behind ≡ 0 = omega arith in
+    record { least = omega arith; rest = refl; within = omega arith; there = rw none-made (sym (no-steps p ns s)); same = refl }
+
+one-more : (p : Problem) (ns : Norms) (from s : State) (k behind : ℕ) → behind ≤ k → s ≡ stateFrom p ns from (k - behind) → wholeStep p ns s .state ≡ stateFrom p ns from (k + 1 - behind)
+one-more p ns from s k behind l e =
+    let next : k + 1 - behind ≡ suc (k - behind) = omega arith in
+    rw (next, state-from p ns from (k - behind), step-from p ns from (k - behind), e)
+
+rest-next : (k left all : ℕ) → 1 < left → k + max left 1 ≡ all → k + 1 + max (left - 1) 1 ≡ all
+rest-next k left all l e = omega arith
+
+module _ {p : Problem} {ns : Norms} {behind given : ℕ} {from : State} {k q left : ℕ} {s : State} {said : Verdict} {made : ℕ} {to : State} (g : Running p ns behind given from k q left s) (t : SteppedBy p ns (k + 1) s said made to) where
+  pub running-counts : {c : ℕ} → ConesReady (p .par) (p .m) (p .words) c → made ≤ perStep
+  running-counts ready = omega (arith, t .counts, step-within p ns s ready)
+
+  said-is : {v : Verdict} → said ≡ v → verdict (p .par) (k + 1) (wholeStep p ns s .failure) (wholeStep p ns s .criteria) ≡ v
+  said-is h = sym (t .says) ∙ h
+
+  state-left : said ≡ GoesOn → to ≡ wholeStep p ns s .state
+  unfolding leftByStep
+  state-left h =
+      let f = goes-on-exactly p (k + 1) (wholeStep p ns s .failure) (wholeStep p ns s .criteria) .exactly .0 (said-is h) .0 in
+      t .left ∙ rw f
+
+  -- this step, and then the rest of the piece
+  piece-is : {v : Verdict} → said ≡ v → goingOn v (pieceFrom (max left 1 - 1) p ns (k + 1) (q + made) (wholeStep p ns s .state)) (k + 1) (q + made) (wholeStep p ns s .state) ≡ pieceOf p ns behind given from
+  piece-is h =
+      let one-less : max left 1 ≡ suc (max left 1 - 1) = omega arith in
+      let step = piece-more p ns (max left 1 - 1) k q s (wholeStep p ns s) refl in
+      rw (t .counts) (sym (rw (said-is h) at step) ∙ rw (← one-less) (g .same))
+
+  pub running-more : {c : ℕ} → ConesReady (p .par) (p .m) (p .words) c → said ≡ GoesOn → 1 < left → Running p ns behind given from (k + 1) (q + made) (left - 1) to
+  running-more ready h l =
+      let one-less : max left 1 - 1 ≡ max (left - 1) 1 = omega arith in
+      let next : k + 1 - behind ≡ suc (k - behind) = omega (arith, g .least) in
+      record {
+        least = omega (arith, g .least);
+        rest = rest-next k left (behind + max given 1) l (g .rest);
+        within = rw next (omega (arith, running-counts ready, g .within));
+        there = state-left h ∙ one-more p ns from s k behind (g .least) (g .there);
+        same = rw (state-left h, ← one-less) (piece-is h);
+      }
+
+  last : {v : Verdict} → said ≡ v → record { said = v; steps = k + 1; rotations = q + made; state = wholeStep p ns s .state } ≡ pieceOf p ns behind given from → IterateOutcome true p ns behind given from (Made v (k + 1) (q + made)) to
+  last h e =
+      let before : k + 1 - behind - 1 ≡ k - behind = omega (arith, g .least) in
+      record { answered = rw (← e); left = rw (← e, before, ← g .there) (t .left) }
+
+  pub running-end : (e : Ending) → said ≡ Ends e → IterateOutcome true p ns behind given from (Made (Ends e) (k + 1) (q + made)) to
+  running-end e h = last h (piece-is h)
+
+  pub running-halts : said ≡ GoesOn → left ≤ 1 → IterateOutcome true p ns behind given from (Made GoesOn (k + 1) (q + made)) to
+  running-halts h l =
+      let none-left : max left 1 - 1 ≡ 0 = omega arith in
+      last h (sym (piece-none p ns (k + 1) (q + made) (wholeStep p ns s .state)) ∙ (rw none-left at (piece-is h)))

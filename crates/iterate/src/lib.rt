@@ -1,0 +1,89 @@
+// A piece of a run: its steps, up to the one that ends it or as many as are given.
+use rules::Norms;
+use rules::Shape;
+use rules::SolverParam;
+use rules::Verdict;
+use whole_step::StepAnswer;
+use whole_step::whole_step;
+ghost use Rattle.rules.specs.Problem.{problemIn};
+ghost use Rattle.step.specs.Update.{stateOf, stepFits};
+ghost use Rattle.iterate.specs.Iterate.{IterateOutcome};
+
+// What a piece answers: what its last step said, the steps by then and the rotations made, or a plain no.
+pub enum Iterated {
+    Made(Verdict, u64, u64),
+    No,
+}
+
+// Steps, when so many are behind: at most as many as are given, and one where none is, as with max_iter. Where a length, a
+// size, the cone list or the sweep limit doesn't fit, it answers no and changes nothing.
+pub fn iterate(
+    par: SolverParam,
+    shape: Shape,
+    c: &[f64],
+    a: &[f64],
+    b: &[f64],
+    words: &[u16],
+    norms: Norms,
+    behind: u32,
+    given: u32,
+    x: &mut [f64],
+    y: &mut [f64],
+    dp_tau: &[f64],
+    dp_sigma: &[f64],
+    rx: &mut [f64],
+    tx: &mut [f64],
+    cone_work: &mut [f64],
+) -> Iterated
+    ensures { λ r. ⌜
+        (let s = stateOf (now (x .entry)) (now (y .entry)) (now («dp_tau» .entry)) (now («dp_sigma» .entry))
+        (now (rx .entry)) (now (tx .entry)) (now («cone_work» .entry)) in
+        IterateOutcome
+        (stepFits par shape (now (c .entry)) (now (a .entry)) (now (b .entry)) (now (words .entry)) s)
+        (problemIn shape (now (c .entry)) (now (a .entry)) (now (b .entry)) (now (words .entry)) par) norms
+        behind given s
+        r
+        (stateOf (now (x .exit)) (now (y .exit)) (now («dp_tau» .entry)) (now («dp_sigma» .entry))
+        (now (rx .exit)) (now (tx .exit)) (now («cone_work» .exit))))
+        ⌝ }
+{
+    let mut left = given;
+    let mut k = behind as u64;
+    let mut q: u64 = 0;
+    loop {
+        k = k + 1;
+        let t = whole_step(
+            par,
+            shape,
+            c,
+            a,
+            b,
+            words,
+            norms,
+            k,
+            x,
+            y,
+            dp_tau,
+            dp_sigma,
+            rx,
+            tx,
+            cone_work,
+        );
+        match t {
+            StepAnswer::Said(v, made) => {
+                q = q + made;
+                match v {
+                    Verdict::Ends(e) => return Iterated::Made(Verdict::Ends(e), k, q),
+                    Verdict::GoesOn => {
+                        if left <= 1 {
+                            return Iterated::Made(Verdict::GoesOn, k, q);
+                        }
+                        left = left - 1;
+                    }
+                }
+            }
+            // only at the first step
+            StepAnswer::No => return Iterated::No,
+        }
+    }
+}

@@ -1,0 +1,39 @@
+-- `solver::solving::answer_of` meets its contract.
+use mathlib.Core.Path.{sym, _∙_}
+use borrow.Author.Needs.{needs}
+use Rattle.solver.proofs.Whole.{answer-ends, answer-halts, none-made}
+use Rattle.solver.proofs.solving.answer_of.Statement.{statement}
+use Rattle.solver.proofs.solving.answer_of.Tie as tie
+
+enum-known-ran : tie.Need-enum-known-ran
+enum-known-ran c = search needs
+
+enum-known-v : tie.Need-enum-known-v
+enum-known-v c = search needs
+
+enum-told : tie.Need-enum-told
+enum-told c = search needs
+
+enum-told-2 : tie.Need-enum-told-2
+enum-told-2 c = search needs
+
+returns : tie.Need-returns
+returns c = λ said k q is. answer-ends (sym (c .before .before .before .before .ran .given .1) ∙ is) (c .before .v .given .1)
+
+returns-2 : tie.Need-returns-2
+returns-2 c = λ said k q is. answer-halts (sym (c .before .before .before .ran .given .1) ∙ is) (c .enum-told .given .1)
+
+returns-3 : tie.Need-returns-3
+returns-3 c = λ said k q is. absurd (none-made (sym (c .enum-told2 .given .1) ∙ is))
+
+pub answer-of-spec : {M : Type 1} → statement M
+answer-of-spec =
+    tie.close
+    (tie.spec
+    enum-known-ran
+    enum-known-v
+    enum-told
+    enum-told-2
+    returns
+    returns-2
+    returns-3)

@@ -184,7 +184,7 @@ impl Card {
         (8 - bits % 8) % 8
     }
 
-    /// The same, with −0 for an eps_acc or an eps_inf below zero.
+    /// The same, with −0 for a finite eps_acc or eps_inf below zero.
     pub fn raised(&self) -> Card {
         let of_pattern = |eps| raised(f64::from_bits(eps)).to_bits();
         Card {

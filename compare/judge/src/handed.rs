@@ -54,7 +54,7 @@ pub const BAD_CONE: u64 = 4;
 pub const NOT_FINITE: u64 = 5;
 pub const WORK_SHORTAGE: u64 = 6;
 
-/// −0, which is taken, for a tolerance below zero; any other as it is.
+/// −0, which is taken, for a finite tolerance below zero; any other as it is.
 pub fn raised(eps: f64) -> f64 {
     if eps.is_finite() && eps < 0.0 {
         -0.0
@@ -91,6 +91,7 @@ impl Handed {
         table.iter().find(|(_, test)| test(self)).map(|(no, _)| *no)
     }
 
+    /// Row 1, with request (ii) of document 02: each tolerance is finite and not below zero.
     fn bad_param(&self) -> bool {
         [self.eps_acc, self.eps_inf, self.eps_zero]
             .iter()
@@ -133,7 +134,7 @@ impl Handed {
         work_len(&self.blocks().expect("a list without a bad word"))
     }
 
-    /// The same, with −0 for an eps_acc or an eps_inf below zero.
+    /// The same, with −0 for a finite eps_acc or eps_inf below zero.
     pub fn raised(&self) -> Handed {
         Handed {
             eps_acc: raised(self.eps_acc),
@@ -142,7 +143,7 @@ impl Handed {
         }
     }
 
-    /// Whether eps_acc or eps_inf is below zero, infinities aside.
+    /// Whether eps_acc or eps_inf is finite and below zero.
     pub fn is_below_zero(&self) -> bool {
         let patterns = |p: &Handed| [p.eps_acc, p.eps_inf].map(f64::to_bits);
         patterns(self) != patterns(&self.raised())
@@ -222,20 +223,20 @@ mod tests {
         for (sweep_limit, answer) in [(0, Some(1)), (1, None), (64, None), (65, Some(1))] {
             assert_eq!(changed(|p| p.sweep_limit = sweep_limit), answer);
         }
-        let least = f64::from_bits(1);
-        let refused = Some(1);
-        for (eps, answer) in [
-            (-1.0, refused),
-            (-least, refused),
-            (-0.0, None),
-            (0.0, None),
-        ] {
+        let each_is = |eps: f64, answer| {
             assert_eq!(changed(|p| p.eps_acc = eps), answer);
             assert_eq!(changed(|p| p.eps_inf = eps), answer);
             assert_eq!(changed(|p| p.eps_zero = eps), answer);
+        };
+        for eps in [f64::NAN, f64::INFINITY, f64::NEG_INFINITY] {
+            each_is(eps, Some(1));
         }
-        assert_eq!(changed(|p| p.eps_acc = f64::NAN), Some(1));
-        assert_eq!(changed(|p| p.eps_inf = f64::NEG_INFINITY), Some(1));
+        for eps in [f64::MIN, -1.0, -f64::from_bits(1)] {
+            each_is(eps, Some(1));
+        }
+        for eps in [-0.0, 0.0, f64::from_bits(1), f64::MAX] {
+            each_is(eps, None);
+        }
     }
 
     #[test]

@@ -83,13 +83,16 @@ fn bad_eps(eps: f64) -> bool
 fn bad_param(par: SolverParam) -> bool
     ensures { λ r. ⌜ r ≡ badParam par ⌝ }
 {
-    if bad_eps(par.eps_acc) {
+    let eps_acc = par.eps_acc;
+    let eps_inf = par.eps_inf;
+    let eps_zero = par.eps_zero;
+    if bad_eps(eps_acc) {
         return true;
     }
-    if bad_eps(par.eps_inf) {
+    if bad_eps(eps_inf) {
         return true;
     }
-    if bad_eps(par.eps_zero) {
+    if bad_eps(eps_zero) {
         return true;
     }
     if par.max_iter > MOST_STEPS {

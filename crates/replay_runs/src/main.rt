@@ -148,7 +148,12 @@ fn write_difference(number: usize) -> bool {
                 b"of all these, an empty matrix on which the original stops",
             )
         }
-        16 => io::write_all(STDOUT_FILENO, b"of all these, a tolerance below zero"),
+        16 => {
+            io::write_all(
+                STDOUT_FILENO,
+                b"of all these, refused for a tolerance below zero alone",
+            )
+        }
         17 => {
             io::write_all(
                 STDOUT_FILENO,

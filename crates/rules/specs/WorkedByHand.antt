@@ -82,10 +82,11 @@ byDefault = empty (defaults 1_000_000 64)
 abbrev epsZero0 : SolverParam → SolverParam
 epsZero0 par = withEpsZero par +0
 
--- the same, with other eps_acc and eps_inf
+-- n = m = 0 by default, but for eps_acc and eps_inf
 abbrev withTolerances : Float → Float → Problem
 withTolerances epsAcc epsInf = empty (paramOf 1_000_000 epsAcc epsInf (oneOver 1_000_000_000_000) 64)
 
+-- −2^−1074
 abbrev nextBelow0 : Float
 nextBelow0 = f64 0x8000_0000_0000_0001
 
@@ -118,7 +119,7 @@ table =
     -- no case of the table, but a sentence of "What the hub hands over"
     ∷ (readWord 0x4003 comes-to Block (SOC 3))
     -- no cases of the table, but request (ii) of document 02
-    ∷ (solved (withTolerances (minus 1) (oneOver 1_000_000)) (held 6) [] comes-to turnedAway BadParam (held 6) [])
+    ∷ (solved (withTolerances (minus 1) (oneOver 1_000_000)) (held 5) [] comes-to turnedAway BadParam (held 5) [])
     ∷ (solved (withTolerances (oneOver 1_000_000) nextBelow0) (held 6) [] comes-to turnedAway BadParam (held 6) [])
     ∷ (solved (withTolerances −0 −0) (held 6) [] .answer comes-to answered (Converged +0 +0 +0) 1 0)
     ∷ []

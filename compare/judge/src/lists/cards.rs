@@ -30,7 +30,7 @@ struct Cards {
     counts: BTreeMap<&'static str, usize>,
     cards: usize,
     largest: usize,
-    /// Each card with a tolerance below zero, with −0 for it.
+    /// Each card with a finite eps_acc or eps_inf below zero, with −0 for it.
     raised: Vec<Card>,
     /// Left out: a larger or smaller of −0 and +0 came out otherwise than the second.
     other_zeros: usize,
@@ -261,8 +261,8 @@ const REFUSED: [fn(&mut Random, &mut Card); 5] = [
     one_not_finite,
 ];
 
-/// A card with a fault of each of these rows of document 01's table, that the first of them answers where no
-/// tolerance is below zero.
+/// A card with a fault of each of these rows of document 01's table, that the first of them answers where
+/// neither eps_acc nor eps_inf is below zero.
 fn with_faults(random: &mut Random, rows: &[usize]) -> Card {
     loop {
         let mut card = Card::of(&of_most(random, Family::Drawn, 5));
@@ -392,7 +392,7 @@ fn longest(all: &mut Cards, random: &mut Random) {
     all.push(&bytes);
 }
 
-/// Whether the original answers soon, with −0 for a tolerance below zero.
+/// Whether the original answers soon, with −0 for an eps_acc or eps_inf below zero.
 fn is_short(bytes: &[u8]) -> bool {
     match read(bytes) {
         Ok(card) => card.raised().handed().refusal().is_some() || card.max_iter <= MOST_STEPS,

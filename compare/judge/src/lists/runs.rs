@@ -46,7 +46,7 @@ const DIFFERENCES: [(u64, &str); 5] = [
         "a larger or smaller of -0 and +0 other than the second",
     ),
     (STOPS, "an empty matrix on which the original stops"),
-    (BELOW_ZERO, "a tolerance below zero"),
+    (BELOW_ZERO, "refused for a tolerance below zero alone"),
 ];
 
 #[derive(Default)]
@@ -61,7 +61,7 @@ struct Records {
     /// Runs that met −0 beside +0 in a larger or smaller, whichever it came out.
     unlike_zeros: usize,
     most_words: usize,
-    /// Each problem with a tolerance below zero, with −0 for it.
+    /// Each problem with a finite eps_acc or eps_inf below zero, with −0 for it.
     raised: Vec<Handed>,
 }
 
@@ -140,7 +140,7 @@ impl Records {
         }
     }
 
-    /// What comes of a problem. One with a tolerance below zero is kept, to be had with −0 as well.
+    /// What comes of a problem. One with a finite eps_acc or eps_inf below zero is kept, to be had with −0 as well.
     fn take(&mut self, p: &Handed) {
         if p.is_below_zero() {
             self.raised.push(p.raised());
@@ -151,7 +151,7 @@ impl Records {
         }
     }
 
-    /// The original would run what is refused for a tolerance below zero alone.
+    /// Writes a refusal. One for an eps_acc or eps_inf below zero alone is tagged: the original would run it.
     fn refused(&mut self, p: &Handed, number: u64) {
         let tag = match p.raised().refusal() {
             None => BELOW_ZERO,
@@ -399,6 +399,24 @@ mod tests {
         all.take(&p);
         assert_eq!(all.words[..2], [0, asked(&p).len() as u64 + 8]);
         assert_eq!(all.words[all.words.len() - 8..], [3, 0, 0, 0, 0, 0, 0, 0]);
+    }
+
+    /// The difference is met where nothing else speaks against the problem.
+    #[test]
+    fn a_tolerance_below_zero_is_told() {
+        let mut random = Random::new(1);
+        let taken = refusals::base(&mut random).raised();
+        let other = refusals::one(&mut random, 4).raised();
+        for (mut p, tag, answers) in [(taken, BELOW_ZERO, 1), (other, 0, 4)] {
+            let mut all = Records::default();
+            p.eps_inf = -1.0;
+            all.take(&p);
+            assert_eq!(all.words[0], tag);
+            assert_eq!(all.words[all.words.len() - 8..], [1, 0, 0, 0, 0, 0, 0, 0]);
+            assert_eq!(all.raised.len(), 1);
+            let raised = all.raised[0].refusal();
+            assert_eq!(raised, (answers > 1).then_some(answers));
+        }
     }
 
     /// A run of no numbers: Converged at once, all criteria +0, and six places of work.

@@ -1,5 +1,6 @@
 //! What document 01 turns away: an accepted problem with one fault of a row of the table, or with
-//! several at once, so that the order of the rows tells. Some have a tolerance below zero besides.
+//! several at once, so that the order of the rows tells. Some have an eps_acc or eps_inf
+//! below zero besides.
 
 use crate::cone_list::Block;
 use crate::draw::{numbers, Sort};
@@ -194,7 +195,7 @@ const FAULTS: [fn(&mut Random, &mut Handed); 6] = [
     work_shortage,
 ];
 
-/// A problem with one fault, that this number answers where no tolerance is below zero.
+/// A problem with one fault, that this number answers where neither eps_acc nor eps_inf is below zero.
 pub fn one(random: &mut Random, number: u64) -> Handed {
     loop {
         let mut p = if number == WORK_SHORTAGE && random.one_in(2) {
@@ -210,8 +211,8 @@ pub fn one(random: &mut Random, number: u64) -> Handed {
     }
 }
 
-/// A problem with a fault of each of these rows, that the first of them answers where no tolerance is
-/// below zero.
+/// A problem with a fault of each of these rows, that the first of them answers where neither eps_acc
+/// nor eps_inf is below zero.
 pub fn several(random: &mut Random, rows: &[u64]) -> Handed {
     let mut order = rows.to_vec();
     // Sizes come first: they make the problem anew.

@@ -386,8 +386,8 @@ def bad_param(items):
     for name in TOLERANCES:
         if not is_finite(items[name]):
             return f"{name} is {decimal_of(items[name])}"
-    if float_of(items["eps_zero"]) < 0:
-        return f"eps_zero is {text_of(items['eps_zero'])}, below 0"
+        if float_of(items[name]) < 0:
+            return f"{name} is {text_of(items[name])}, below 0"
     if items["max_iter"] > SOLVER_STEPS:
         return f"max_iter is {items['max_iter']}, above {SOLVER_STEPS}"
     if not 1 <= items["sweep_limit"] <= SOLVER_SWEEPS:

@@ -1,6 +1,6 @@
 //! A problem as a card file, by document 02 (i): bits, the most significant first.
 
-use crate::handed::{stored, work_places, Handed, Vector};
+use crate::handed::{raised, stored, work_places, Handed, Vector};
 use crate::problem::{Answer, Problem};
 use crate::words::word;
 
@@ -182,6 +182,16 @@ impl Card {
         let numbers = 3 + self.c.len() + self.a.len() + self.b.len();
         let bits = 4 + 1 + 6 + 6 + 6 + 16 * self.words.len() + 20 + 7 + 64 * numbers;
         (8 - bits % 8) % 8
+    }
+
+    /// The same, with −0 for a finite eps_acc or eps_inf below zero.
+    pub fn raised(&self) -> Card {
+        let of_pattern = |eps| raised(f64::from_bits(eps)).to_bits();
+        Card {
+            eps_acc: of_pattern(self.eps_acc),
+            eps_inf: of_pattern(self.eps_inf),
+            ..self.clone()
+        }
     }
 
     /// The problem, with enough of both buffers for any card.

@@ -1,4 +1,4 @@
-//! Problems that document 01 accepts, drawn in families.
+//! Problems that are accepted, but for a tolerance below zero of some, drawn in families.
 
 use totsu_core::MatType;
 
@@ -237,7 +237,7 @@ fn eps_acc(random: &mut Random, family: Family) -> f64 {
     }
 }
 
-/// Tight or loose, met by few runs or by none.
+/// Tight or loose, met by few runs; or below zero, and refused.
 fn tolerance(random: &mut Random) -> f64 {
     random.pick(&[1e-6, 1e-6, 1e-6, 1e-3, 1e-3, 1e-9, 0.5, 0.0, -0.0, -1.0])
 }

@@ -54,6 +54,15 @@ pub const BAD_CONE: u64 = 4;
 pub const NOT_FINITE: u64 = 5;
 pub const WORK_SHORTAGE: u64 = 6;
 
+/// −0, which is taken, for a finite tolerance below zero; any other as it is.
+pub fn raised(eps: f64) -> f64 {
+    if eps.is_finite() && eps < 0.0 {
+        -0.0
+    } else {
+        eps
+    }
+}
+
 /// The places of work that a run of m rows and n columns needs.
 pub fn work_places(m: usize, n: usize) -> usize {
     6 * n + 10 * m + 6
@@ -82,12 +91,11 @@ impl Handed {
         table.iter().find(|(_, test)| test(self)).map(|(no, _)| *no)
     }
 
+    /// Row 1, with request (ii) of document 02: each tolerance is finite and not below zero.
     fn bad_param(&self) -> bool {
-        let all_finite = [self.eps_acc, self.eps_inf, self.eps_zero]
+        [self.eps_acc, self.eps_inf, self.eps_zero]
             .iter()
-            .all(|eps| eps.is_finite());
-        !all_finite
-            || self.eps_zero < 0.0
+            .any(|eps| !eps.is_finite() || *eps < 0.0)
             || self.max_iter > 1_000_000
             || !(1..=64).contains(&self.sweep_limit)
     }
@@ -124,6 +132,21 @@ impl Handed {
 
     pub fn needed_cone_work(&self) -> usize {
         work_len(&self.blocks().expect("a list without a bad word"))
+    }
+
+    /// The same, with −0 for a finite eps_acc or eps_inf below zero.
+    pub fn raised(&self) -> Handed {
+        Handed {
+            eps_acc: raised(self.eps_acc),
+            eps_inf: raised(self.eps_inf),
+            ..self.clone()
+        }
+    }
+
+    /// Whether eps_acc or eps_inf is finite and below zero.
+    pub fn is_below_zero(&self) -> bool {
+        let patterns = |p: &Handed| [p.eps_acc, p.eps_inf].map(f64::to_bits);
+        patterns(self) != patterns(&self.raised())
     }
 
     /// What the original is run on; an eps_zero of −0 is read as +0.
@@ -200,11 +223,32 @@ mod tests {
         for (sweep_limit, answer) in [(0, Some(1)), (1, None), (64, None), (65, Some(1))] {
             assert_eq!(changed(|p| p.sweep_limit = sweep_limit), answer);
         }
-        assert_eq!(changed(|p| p.eps_zero = -0.0), None);
-        assert_eq!(changed(|p| p.eps_zero = -f64::from_bits(1)), Some(1));
-        assert_eq!(changed(|p| p.eps_acc = -1.0), None);
-        assert_eq!(changed(|p| p.eps_acc = f64::NAN), Some(1));
-        assert_eq!(changed(|p| p.eps_inf = f64::NEG_INFINITY), Some(1));
+        let each_is = |eps: f64, answer| {
+            assert_eq!(changed(|p| p.eps_acc = eps), answer);
+            assert_eq!(changed(|p| p.eps_inf = eps), answer);
+            assert_eq!(changed(|p| p.eps_zero = eps), answer);
+        };
+        for eps in [f64::NAN, f64::INFINITY, f64::NEG_INFINITY] {
+            each_is(eps, Some(1));
+        }
+        for eps in [f64::MIN, -1.0, -f64::from_bits(1)] {
+            each_is(eps, Some(1));
+        }
+        for eps in [-0.0, 0.0, f64::from_bits(1), f64::MAX] {
+            each_is(eps, None);
+        }
+    }
+
+    #[test]
+    fn raised_to_minus_0() {
+        let mut p = accepted();
+        assert!(!p.is_below_zero());
+        (p.eps_acc, p.eps_inf) = (-1.0, f64::NEG_INFINITY);
+        assert!(p.is_below_zero());
+        let q = p.raised();
+        assert!(!q.is_below_zero());
+        assert_eq!(q.eps_acc.to_bits(), (-0.0f64).to_bits());
+        assert_eq!(q.eps_inf, f64::NEG_INFINITY);
     }
 
     #[test]
@@ -237,6 +281,7 @@ mod tests {
     #[test]
     fn the_first_that_applies() {
         assert_eq!(changed(|p| (p.n, p.sweep_limit) = (257, 0)), Some(1));
+        assert_eq!(changed(|p| (p.n, p.eps_inf) = (257, -1.0)), Some(1));
         assert_eq!(changed(|p| (p.n, p.work) = (257, 0)), Some(2));
         assert_eq!(changed(|p| (p.c.length, p.work) = (3, 0)), Some(3));
         let nan = f64::NAN;

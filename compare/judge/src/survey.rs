@@ -20,9 +20,12 @@ fn ending_name(ending: &Ending) -> &'static str {
 pub fn survey(seed: u64, count: usize) {
     let mut random = Random::new(seed);
     let mut endings: BTreeMap<&str, usize> = BTreeMap::new();
+    let mut below_zero = 0;
     let (mut stopped, mut steps, mut rotations, mut other_zeros, mut unlike) = (0, 0, 0, 0, 0);
     for i in 0..count {
-        let p = small(&mut random, FAMILIES[i % FAMILIES.len()]).problem();
+        let drawn = small(&mut random, FAMILIES[i % FAMILIES.len()]);
+        below_zero += usize::from(drawn.is_below_zero());
+        let p = drawn.raised().problem();
         stopped += usize::from(p.stops());
         let answer = p.solve();
         *endings.entry(ending_name(&answer.ending)).or_default() += 1;
@@ -46,6 +49,7 @@ pub fn survey(seed: u64, count: usize) {
     for (name, number) in &endings {
         println!("  {number:6} {name}");
     }
+    println!("{below_zero} with a tolerance below zero, which is refused, had with -0 for it");
     println!("{stopped} runs on whose empty matrix the original stops, had with the rule's sums");
     println!("{steps} steps, {rotations} rotations");
     println!("{other_zeros} runs with a larger or smaller of -0 and +0 other than the second");

@@ -12,7 +12,7 @@ use rules::Storage;
 ghost use Prim.Native.Nat.{_≤_};
 ghost use mathlib.Core.Path.{_≡_};
 ghost use Rattle.rules.specs.Limits.{limit};
-ghost use Rattle.rules.specs.Refusals.{isFinite, allFinite, badParam, largeSizes, wrongLengths, someNotFinite, shortBuffers, refusal};
+ghost use Rattle.rules.specs.Refusals.{isFinite, allFinite, badEps, badParam, largeSizes, wrongLengths, someNotFinite, shortBuffers, refusal};
 ghost use Rattle.rules.specs.Problem.{problemOf, asRead};
 
 // The first test that applies.
@@ -70,19 +70,29 @@ fn is_finite(x: f64) -> bool
     if x < infinity { -infinity < x } else { false }
 }
 
+// Not finite, or below zero; -0 is not below.
+fn bad_eps(eps: f64) -> bool
+    ensures { λ r. ⌜ r ≡ badEps eps ⌝ }
+{
+    if !is_finite(eps) {
+        return true;
+    }
+    eps < 0.0
+}
+
 fn bad_param(par: SolverParam) -> bool
     ensures { λ r. ⌜ r ≡ badParam par ⌝ }
 {
-    if !is_finite(par.eps_acc) {
+    let eps_acc = par.eps_acc;
+    let eps_inf = par.eps_inf;
+    let eps_zero = par.eps_zero;
+    if bad_eps(eps_acc) {
         return true;
     }
-    if !is_finite(par.eps_inf) {
+    if bad_eps(eps_inf) {
         return true;
     }
-    if !is_finite(par.eps_zero) {
-        return true;
-    }
-    if par.eps_zero < 0.0 {
+    if bad_eps(eps_zero) {
         return true;
     }
     if par.max_iter > MOST_STEPS {

@@ -24,9 +24,11 @@ const SWEEP_LIMIT: usize = 14;
 
 const STOPS: usize = 15;
 
-const ZEROS: usize = 16;
+const BELOW_ZERO: usize = 16;
 
-const COUNTED: usize = 17;
+const ZEROS: usize = 17;
+
+const COUNTED: usize = 18;
 
 // Reads a record and replays it: whether there was a whole one of a known kind.
 fn replay_one(a: &mut [f64], agree: &mut [u64; COUNTED], differ: &mut [u64; COUNTED]) -> bool {
@@ -65,7 +67,7 @@ fn replay_rest(
 
 // Counts an answer of this number, with the differences that its problem meets, which the tag adds up.
 fn count(tally: &mut [u64; COUNTED], number: usize, tag: u64) -> bool {
-    if number < 1 || number > 12 || tag > 15 {
+    if number < 1 || number > 12 || tag > 31 {
         return false;
     }
     if tag / 4 % 2 == 1 {
@@ -75,7 +77,8 @@ fn count(tally: &mut [u64; COUNTED], number: usize, tag: u64) -> bool {
     tally::count(tally, number);
     count_if(tally, tag % 2 == 1, EPS_ZERO);
     count_if(tally, tag / 2 % 2 == 1, SWEEP_LIMIT);
-    count_if(tally, tag / 8 == 1, STOPS)
+    count_if(tally, tag / 8 % 2 == 1, STOPS);
+    count_if(tally, tag / 16 == 1, BELOW_ZERO)
 }
 
 fn count_if(tally: &mut [u64; COUNTED], met: bool, at: usize) -> bool {
@@ -146,6 +149,12 @@ fn write_difference(number: usize) -> bool {
             )
         }
         16 => {
+            io::write_all(
+                STDOUT_FILENO,
+                b"of all these, refused for a tolerance below zero alone",
+            )
+        }
+        17 => {
             io::write_all(
                 STDOUT_FILENO,
                 b"apart from these, a larger or smaller of -0 and +0 otherwise",

@@ -40,11 +40,15 @@ unfoldable pub allFinite : List Float → Bool
 allFinite [] = true
 allFinite (x ∷ xs) = isFinite x && allFinite xs
 
--- 1: "an eps is not finite, eps_zero < 0, max_iter or sweep limit outside its range"
-abbrev pub badTolerance : SolverParam → Bool
-badTolerance par =
-    not (isFinite (par .«eps_acc»)) || not (isFinite (par .«eps_inf»)) || not (isFinite (par .«eps_zero»)) || lt (par .«eps_zero») +0
+-- an eps that is not finite or is below zero
+abbrev pub badEps : Float → Bool
+badEps eps = not (isFinite eps) || lt eps +0
 
+abbrev pub badTolerance : SolverParam → Bool
+badTolerance par = badEps (par .«eps_acc») || badEps (par .«eps_inf») || badEps (par .«eps_zero»)
+
+-- 1: "an eps is not finite, eps_zero < 0, max_iter or sweep limit outside its range"; by request (ii) of document 02 "also given when eps_acc or
+-- eps_inf is below zero; −0 is still taken"
 unfoldable pub badParam : SolverParam → Bool
 unfolding lt
 badParam par = badTolerance par || ltb mostSteps (par .«max_iter») || not (sweepsFit par)

@@ -1,4 +1,4 @@
--- Document 01, "Worked by hand": the cases marked P, as rows of one table, with the cone word that it names. `proofs/WorkedByHand.antt` proves the one claim that every row holds.
+-- Document 01, "Worked by hand": the cases marked P, as rows of one table, with the cone word that 01 names and request (ii) of document 02. `proofs/WorkedByHand.antt` proves the one claim that every row holds.
 use Prim.Native.Nat.{ℕ}
 use mathlib.Core.Path.{_≡_}
 use mathlib.Core.List.{List, [], _∷_}
@@ -14,13 +14,13 @@ use Rattle.rules.specs.declared.Cone.the-variants.{SOC}
 use Rattle.rules.specs.declared.Word.the-variants.{Block}
 use Rattle.rules.specs.declared.Answer.{Answer}
 use Rattle.rules.specs.declared.Ending.{Ending}
-use Rattle.rules.specs.declared.Ending.the-variants.{Converged, ExcessIterUnscaled, WorkShortage}
+use Rattle.rules.specs.declared.Ending.the-variants.{Converged, ExcessIterUnscaled, BadParam, WorkShortage}
 use Rattle.rules.specs.Arithmetic.{+0}
 use Rattle.rules.specs.Helpers.{larger, smaller}
 use Rattle.rules.specs.Matrices.{opped, transOpped, absaddedRows, absaddedCols}
 use Rattle.rules.specs.Projections.{projSOC}
 use Rattle.rules.specs.Blocks.{readWord}
-use Rattle.rules.specs.Parameters.{withEpsZero, defaults}
+use Rattle.rules.specs.Parameters.{oneOver, paramOf, withEpsZero, defaults}
 use Rattle.rules.specs.Outcome.{turned-away, onPaper}
 use Rattle.rules.specs.Problem.{Problem}
 use Rattle.rules.specs.Refusals.{solved, turnedAway}
@@ -82,6 +82,14 @@ byDefault = empty (defaults 1_000_000 64)
 abbrev epsZero0 : SolverParam → SolverParam
 epsZero0 par = withEpsZero par +0
 
+-- n = m = 0 by default, but for eps_acc and eps_inf
+abbrev withTolerances : Float → Float → Problem
+withTolerances epsAcc epsInf = empty (paramOf 1_000_000 epsAcc epsInf (oneOver 1_000_000_000_000) 64)
+
+-- −2^−1074
+abbrev nextBelow0 : Float
+nextBelow0 = f64 0x8000_0000_0000_0001
+
 -- places that held 5 before
 abbrev held : ℕ → List Float
 held k = replicate k (whole 5)
@@ -110,4 +118,8 @@ table =
     ∷ (onPaper (solved byDefault (held 5) [] .answer .ending) comes-to turned-away 6)
     -- no case of the table, but a sentence of "What the hub hands over"
     ∷ (readWord 0x4003 comes-to Block (SOC 3))
+    -- no cases of the table, but request (ii) of document 02
+    ∷ (solved (withTolerances (minus 1) (oneOver 1_000_000)) (held 5) [] comes-to turnedAway BadParam (held 5) [])
+    ∷ (solved (withTolerances (oneOver 1_000_000) nextBelow0) (held 6) [] comes-to turnedAway BadParam (held 6) [])
+    ∷ (solved (withTolerances −0 −0) (held 6) [] .answer comes-to answered (Converged +0 +0 +0) 1 0)
     ∷ []

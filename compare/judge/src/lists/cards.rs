@@ -30,6 +30,8 @@ struct Cards {
     counts: BTreeMap<&'static str, usize>,
     cards: usize,
     largest: usize,
+    /// Each card with a finite eps_acc or eps_inf below zero, with −0 for it.
+    raised: Vec<Card>,
     /// Left out: a larger or smaller of −0 and +0 came out otherwise than the second.
     other_zeros: usize,
 }
@@ -55,6 +57,11 @@ const NAMES: [&str; 15] = [
 
 impl Cards {
     fn push(&mut self, bytes: &[u8]) {
+        if let Ok(card) = read(bytes) {
+            if card != card.raised() {
+                self.raised.push(card.raised());
+            }
+        }
         let answer = told(bytes);
         let name = match &answer {
             Told::Fault(number) => NAMES[*number as usize - 1],
@@ -175,7 +182,7 @@ fn rare(all: &mut Cards, random: &mut Random) {
         let mut met = 0;
         while met < 40 {
             let p = of_most(random, family, 8);
-            if p.problem().solve().ending.name() == wanted {
+            if p.raised().problem().solve().ending.name() == wanted {
                 all.good(&p);
                 met += 1;
             }
@@ -254,8 +261,9 @@ const REFUSED: [fn(&mut Random, &mut Card); 5] = [
     one_not_finite,
 ];
 
-/// A card with a fault of each of these rows of document 01's table, that the first of them answers.
-fn refused(all: &mut Cards, random: &mut Random, rows: &[usize]) {
+/// A card with a fault of each of these rows of document 01's table, that the first of them answers where
+/// neither eps_acc nor eps_inf is below zero.
+fn with_faults(random: &mut Random, rows: &[usize]) -> Card {
     loop {
         let mut card = Card::of(&of_most(random, Family::Drawn, 5));
         // The shape first: it makes A anew. The longest list last: it is of any words.
@@ -264,9 +272,8 @@ fn refused(all: &mut Cards, random: &mut Random, rows: &[usize]) {
                 REFUSED[row - 1](random, &mut card);
             }
         }
-        if card.handed().refusal() == Some(rows[0] as u64) {
-            all.push(&card.bytes());
-            return;
+        if card.raised().handed().refusal() == rows.first().map(|row| *row as u64) {
+            return card;
         }
     }
 }
@@ -274,14 +281,14 @@ fn refused(all: &mut Cards, random: &mut Random, rows: &[usize]) {
 fn refusals(all: &mut Cards, random: &mut Random) {
     for first in 1..=5 {
         for _ in 0..24 {
-            refused(all, random, &[first]);
+            all.push(&with_faults(random, &[first]).bytes());
         }
         for second in first + 1..=5 {
             for _ in 0..6 {
-                refused(all, random, &[first, second]);
+                all.push(&with_faults(random, &[first, second]).bytes());
             }
             for third in second + 1..=5 {
-                refused(all, random, &[first, second, third]);
+                all.push(&with_faults(random, &[first, second, third]).bytes());
             }
         }
     }
@@ -385,10 +392,10 @@ fn longest(all: &mut Cards, random: &mut Random) {
     all.push(&bytes);
 }
 
-/// Whether the original answers soon.
+/// Whether the original answers soon, with −0 for an eps_acc or eps_inf below zero.
 fn is_short(bytes: &[u8]) -> bool {
     match read(bytes) {
-        Ok(card) => card.handed().refusal().is_some() || card.max_iter <= MOST_STEPS,
+        Ok(card) => card.raised().handed().refusal().is_some() || card.max_iter <= MOST_STEPS,
         Err(_) => true,
     }
 }
@@ -430,6 +437,19 @@ fn any_bytes(all: &mut Cards, random: &mut Random) {
     }
 }
 
+/// Tolerances below zero, of a card that is taken but for them, and with a fault of each later row.
+fn below_zero(all: &mut Cards, random: &mut Random) {
+    for eps in [-1.0, -1e-12, -f64::from_bits(1), f64::MIN] {
+        for (eps_acc, eps_inf) in [(eps, 1e-6), (1e-6, eps), (eps, eps)] {
+            for rows in [&[][..], &[2], &[3], &[4], &[5]] {
+                let mut card = with_faults(random, rows);
+                (card.eps_acc, card.eps_inf) = (eps_acc.to_bits(), eps_inf.to_bits());
+                all.push(&card.bytes());
+            }
+        }
+    }
+}
+
 fn drawn(seed: u64, all: &mut Cards) {
     let mut random = Random::new(seed);
     all.push(&empty().bytes());
@@ -460,6 +480,10 @@ fn drawn(seed: u64, all: &mut Cards) {
     longest(all, &mut random);
     turned(all, &mut random);
     any_bytes(all, &mut random);
+    below_zero(all, &mut random);
+    for card in std::mem::take(&mut all.raised) {
+        all.push(&card.bytes());
+    }
 }
 
 /// Writes standard input and output of the program in `folder`; the cards that tell a story are in

@@ -20,6 +20,7 @@ const EPS_ZERO: u64 = 1;
 const SWEEP_LIMIT: u64 = 2;
 const ZEROS: u64 = 4;
 const STOPS: u64 = 8;
+const BELOW_ZERO: u64 = 16;
 
 /// What the answer's first word is, from 1 to 6 for refusals.
 const NAMES: [(u64, &str); 12] = [
@@ -37,7 +38,7 @@ const NAMES: [(u64, &str); 12] = [
     (12, "ConeFailure"),
 ];
 
-const DIFFERENCES: [(u64, &str); 4] = [
+const DIFFERENCES: [(u64, &str); 5] = [
     (EPS_ZERO, "eps_zero of -0"),
     (SWEEP_LIMIT, "a sweep limit reached"),
     (
@@ -45,6 +46,7 @@ const DIFFERENCES: [(u64, &str); 4] = [
         "a larger or smaller of -0 and +0 other than the second",
     ),
     (STOPS, "an empty matrix on which the original stops"),
+    (BELOW_ZERO, "refused for a tolerance below zero alone"),
 ];
 
 #[derive(Default)]
@@ -59,6 +61,8 @@ struct Records {
     /// Runs that met −0 beside +0 in a larger or smaller, whichever it came out.
     unlike_zeros: usize,
     most_words: usize,
+    /// Each problem with a finite eps_acc or eps_inf below zero, with −0 for it.
+    raised: Vec<Handed>,
 }
 
 fn ending_number(ending: &Ending) -> u64 {
@@ -136,9 +140,24 @@ impl Records {
         }
     }
 
-    fn refused(&mut self, p: &Handed) {
-        let number = p.refusal().expect("a refusal");
-        self.push(p, 0, &[number, 0, 0, 0, 0, 0, 0, 0]);
+    /// What comes of a problem. One with a finite eps_acc or eps_inf below zero is kept, to be had with −0 as well.
+    fn take(&mut self, p: &Handed) {
+        if p.is_below_zero() {
+            self.raised.push(p.raised());
+        }
+        match p.refusal() {
+            Some(number) => self.refused(p, number),
+            None => self.run(p),
+        }
+    }
+
+    /// Writes a refusal. One for an eps_acc or eps_inf below zero alone is tagged: the original would run it.
+    fn refused(&mut self, p: &Handed, number: u64) {
+        let tag = match p.raised().refusal() {
+            None => BELOW_ZERO,
+            Some(_) => 0,
+        };
+        self.push(p, tag, &[number, 0, 0, 0, 0, 0, 0, 0]);
     }
 
     /// Runs the original and writes what it answers.
@@ -202,7 +221,7 @@ fn large(all: &mut Records, random: &mut Random) {
             p.a.given.truncate(97);
             p.b.given.truncate(31);
             p.max_iter = random.pick(&[1, 2, 3, 5, 8]);
-            all.run(&p);
+            all.take(&p);
         }
     }
 }
@@ -223,7 +242,7 @@ fn large_blocks(all: &mut Records, random: &mut Random) {
             .word()];
             p.cone_work = p.needed_cone_work() + 1;
             (p.max_iter, p.sweep_limit, p.eps_zero) = (2, sweep_limit, 1e-12);
-            all.run(&p);
+            all.take(&p);
         }
     }
 }
@@ -237,7 +256,7 @@ fn at_the_limits(all: &mut Records, random: &mut Random) {
         p.max_iter = 100;
         if p.problem().solve().k < 100 {
             p.max_iter = 1_000_000;
-            all.run(&p);
+            all.take(&p);
             met += 1;
         }
     }
@@ -245,7 +264,7 @@ fn at_the_limits(all: &mut Records, random: &mut Random) {
         let mut p = small(random, Family::Drawn);
         let empty = random.pick(&[0x0000, 0x2000, 0x4000, 0x6000, 0x8000]);
         p.words.resize(32, empty);
-        all.run(&p);
+        all.take(&p);
     }
 }
 
@@ -257,7 +276,23 @@ fn long(all: &mut Records, random: &mut Random) {
         p.sweep_limit = 64;
         (p.eps_acc, p.eps_inf) = random.pick(&[(1e-6, 1e-6), (1e-9, 1e-9), (1e-4, 1e-6)]);
         p.eps_zero = 1e-12;
-        all.run(&p);
+        all.take(&p);
+    }
+}
+
+/// Tolerances below zero, of a problem that is accepted but for them, and with a fault of each later row.
+fn below_zero(all: &mut Records, random: &mut Random) {
+    for eps in [-1.0, -1e-12, -f64::from_bits(1), f64::MIN] {
+        for (eps_acc, eps_inf) in [(eps, 1e-6), (1e-6, eps), (eps, eps)] {
+            for row in 1..=6 {
+                let mut p = match row {
+                    1 => refusals::base(random),
+                    _ => refusals::one(random, row),
+                };
+                (p.eps_acc, p.eps_inf) = (eps_acc, eps_inf);
+                all.take(&p);
+            }
+        }
     }
 }
 
@@ -274,7 +309,7 @@ fn records(seed: u64) -> Records {
     ] {
         for _ in 0..times {
             let p = small(&mut random, family);
-            all.run(&p);
+            all.take(&p);
         }
     }
     long(&mut all, &mut random);
@@ -283,21 +318,25 @@ fn records(seed: u64) -> Records {
     large_blocks(&mut all, &mut random);
     for number in 1..=6 {
         for _ in 0..110 {
-            all.refused(&refusals::one(&mut random, number));
+            all.take(&refusals::one(&mut random, number));
         }
     }
     // Each two rows of the table at once, and each three.
     for first in 1..=6 {
         for second in first + 1..=6 {
             for _ in 0..15 {
-                all.refused(&refusals::several(&mut random, &[first, second]));
+                all.take(&refusals::several(&mut random, &[first, second]));
             }
             for third in second + 1..=6 {
                 for _ in 0..4 {
-                    all.refused(&refusals::several(&mut random, &[first, second, third]));
+                    all.take(&refusals::several(&mut random, &[first, second, third]));
                 }
             }
         }
+    }
+    below_zero(&mut all, &mut random);
+    for p in std::mem::take(&mut all.raised) {
+        all.take(&p);
     }
     all
 }
@@ -337,7 +376,7 @@ mod tests {
         let all = records(1);
         let (mut at, mut met) = (0, 0);
         while at < all.words.len() {
-            assert!(all.words[at] < 16);
+            assert!(all.words[at] < 32);
             assert!(all.words[at + 1] <= 5000);
             at += 2 + all.words[at + 1] as usize;
             met += 1;
@@ -345,7 +384,7 @@ mod tests {
         assert_eq!(at, all.words.len());
         assert_eq!(met, all.counts.values().sum::<usize>());
         assert_eq!(all.words, records(1).words);
-        assert!(all.words.len() * 8 <= 6_000_000);
+        assert!(all.words.len() * 8 <= 6_500_000);
         for (number, name) in NAMES {
             assert!(all.counts[&number] >= 100, "{name}");
         }
@@ -356,10 +395,28 @@ mod tests {
     fn a_refusal_is_eight_words() {
         let mut all = Records::default();
         let mut random = Random::new(1);
-        let p = refusals::one(&mut random, 3);
-        all.refused(&p);
+        let p = refusals::one(&mut random, 3).raised();
+        all.take(&p);
         assert_eq!(all.words[..2], [0, asked(&p).len() as u64 + 8]);
         assert_eq!(all.words[all.words.len() - 8..], [3, 0, 0, 0, 0, 0, 0, 0]);
+    }
+
+    /// The difference is met where nothing else speaks against the problem.
+    #[test]
+    fn a_tolerance_below_zero_is_told() {
+        let mut random = Random::new(1);
+        let taken = refusals::base(&mut random).raised();
+        let other = refusals::one(&mut random, 4).raised();
+        for (mut p, tag, answers) in [(taken, BELOW_ZERO, 1), (other, 0, 4)] {
+            let mut all = Records::default();
+            p.eps_inf = -1.0;
+            all.take(&p);
+            assert_eq!(all.words[0], tag);
+            assert_eq!(all.words[all.words.len() - 8..], [1, 0, 0, 0, 0, 0, 0, 0]);
+            assert_eq!(all.raised.len(), 1);
+            let raised = all.raised[0].refusal();
+            assert_eq!(raised, (answers > 1).then_some(answers));
+        }
     }
 
     /// A run of no numbers: Converged at once, all criteria +0, and six places of work.
@@ -369,7 +426,7 @@ mod tests {
         let mut p = of_size(&mut Random::new(1), Family::Drawn, false, 0, 0);
         (p.eps_acc, p.eps_inf, p.eps_zero) = (1e-6, 1e-6, -0.0);
         (p.max_iter, p.words) = (1, vec![]);
-        all.run(&p);
+        all.take(&p);
         assert_eq!(all.words[0], EPS_ZERO);
         let answer = &all.words[2 + asked(&p).len()..];
         let infinite = f64::INFINITY.to_bits();

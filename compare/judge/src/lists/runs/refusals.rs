@@ -1,5 +1,6 @@
 //! What document 01 turns away: an accepted problem with one fault of a row of the table, or with
-//! several at once, so that the order of the rows tells.
+//! several at once, so that the order of the rows tells. Some have an eps_acc or eps_inf
+//! below zero besides.
 
 use crate::cone_list::Block;
 use crate::draw::{numbers, Sort};
@@ -9,7 +10,7 @@ use crate::original::Kind;
 use crate::random::Random;
 
 /// A problem of n and m up to 5.
-fn base(random: &mut Random) -> Handed {
+pub fn base(random: &mut Random) -> Handed {
     loop {
         let p = small(random, Family::Drawn);
         if p.n <= 5 && p.m <= 5 {
@@ -194,7 +195,7 @@ const FAULTS: [fn(&mut Random, &mut Handed); 6] = [
     work_shortage,
 ];
 
-/// A problem with one fault, that this number answers.
+/// A problem with one fault, that this number answers where neither eps_acc nor eps_inf is below zero.
 pub fn one(random: &mut Random, number: u64) -> Handed {
     loop {
         let mut p = if number == WORK_SHORTAGE && random.one_in(2) {
@@ -204,13 +205,14 @@ pub fn one(random: &mut Random, number: u64) -> Handed {
             base(random)
         };
         FAULTS[number as usize - 1](random, &mut p);
-        if p.refusal() == Some(number) {
+        if p.raised().refusal() == Some(number) {
             return p;
         }
     }
 }
 
-/// A problem with a fault of each of these rows, that the first of them answers.
+/// A problem with a fault of each of these rows, that the first of them answers where neither eps_acc
+/// nor eps_inf is below zero.
 pub fn several(random: &mut Random, rows: &[u64]) -> Handed {
     let mut order = rows.to_vec();
     // Sizes come first: they make the problem anew.
@@ -220,7 +222,7 @@ pub fn several(random: &mut Random, rows: &[u64]) -> Handed {
         for row in &order {
             FAULTS[*row as usize - 1](random, &mut p);
         }
-        if p.refusal() == rows.iter().min().copied() {
+        if p.raised().refusal() == rows.iter().min().copied() {
             return p;
         }
     }

@@ -1,4 +1,4 @@
--- The loop that rotates two rows and columns of the matrix, and the three stores after it.
+-- The loops that rotate two rows and columns of the matrix, and the three stores after them.
 use Prim.Native.Nat.{ℕ, _+_, _<_, _≤_}
 use native.Mathlib.Omega.{arith}
 use mathlib.Core.Path.{_≡_, refl, sym, _∙_, ap}
@@ -12,11 +12,11 @@ use Rattle.rules.specs.Matrices.{triangle, place, entry, packedPlace}
 use Rattle.rules.specs.Jacobi.{two, packed, inPacked, rotatedFirst, rotatedSecond, rotatedEntry}
 use Rattle.rules.proofs.Columns.{by-same, inPacked-place, packed-is, packedPlace-le, packedPlace-mirrored, packedPlace-inside, packedPlace-apart}
 use Rattle.jacobi.specs.Sizes.{IsPacked, IsPair}
-use Rattle.jacobi.specs.Loops.{cell, RowsRotated, CornersOf}
+use Rattle.jacobi.specs.Loops.{cell, twoRotated, RowsRotated, CornersOf}
 
--- ---- the loop
+-- ---- the rows, one after another
 
-pub rotated-none : (i j : ℕ) (c s : Float) (x : List Float) → RowsRotated 0 i j c s x x
+rotated-none : (i j : ℕ) (c s : Float) (x : List Float) → RowsRotated 0 i j c s x x
 rotated-none i j c s x =
     record {
       same = refl;
@@ -31,7 +31,7 @@ rotated-none i j c s x =
 without : (p q k i : ℕ) → (p ≡ i → ⊥) → (q ≡ i → ⊥) → packedPlace p q ≡ packedPlace k i → ⊥
 without p q k i u v e = omega (arith, packedPlace-apart p q k i e)
 
-pub cells-inside : (n r c : ℕ) (x : List Float) → IsPacked n x → r < n → c < n → packedPlace r c < length x
+cells-inside : (n r c : ℕ) (x : List Float) → IsPacked n x → r < n → c < n → packedPlace r c < length x
 cells-inside n r c x sized hr hc = omega (arith, packedPlace-inside n r c hr hc, sized .stored)
 
 module _ (n k i j : ℕ) (c s : Float) (x x' : List Float) (r : RowsRotated k i j c s x x') (sized : IsPacked n x) (pair : IsPair n i j) (h : k < n) where
@@ -90,9 +90,53 @@ module _ (n k i j : ℕ) (c s : Float) (x x' : List Float) (r : RowsRotated k i 
             ∙ r .others p q t u v w;
       }
 
-pub rotated-more : {n k i j : ℕ} {c s : Float} {x x' : List Float} {p q : ℕ} → RowsRotated k i j c s x x' → IsPacked n x → IsPair n i j → k < n → p ≡ packedPlace k i → q ≡ packedPlace k j → RowsRotated (k + 1) i j c s x (set (set x' p (rotatedFirst c s (at x' p) (at x' q))) q (rotatedSecond c s (at x' p) (at x' q)))
+rotated-more : {n k i j : ℕ} {c s : Float} {x x' x'' : List Float} {p q : ℕ} → RowsRotated k i j c s x x' → IsPacked n x → IsPair n i j → k < n → p ≡ packedPlace k i → q ≡ packedPlace k j → x'' ≡ twoRotated p q c s x' → RowsRotated (k + 1) i j c s x x''
 unfolding first second once twice
-rotated-more {n} {k} {i} {j} {c} {s} {x} {x'} r sized pair h e e' = rw (e, e') (done n k i j c s x x' r sized pair h)
+rotated-more {n} {k} {i} {j} {c} {s} {x} {x'} r sized pair h e e' is = rw (is, e, e') (done n k i j c s x x' r sized pair h)
+
+-- Rows i and j have nothing to rotate: their entries of columns i and j are the three common ones.
+rotated-past : {k i j : ℕ} {c s : Float} {x x' : List Float} → RowsRotated k i j c s x x' → ((k ≡ i → ⊥) → (k ≡ j → ⊥) → ⊥) → RowsRotated (k + 1) i j c s x x'
+rotated-past {k} r common =
+    record {
+      same = r .same;
+      first = λ m l u v. by-same m k (λ e. absurd (common (rw e at u) (rw e at v))) (λ ne. r .first m (omega arith) u v);
+      second = λ m l u v. by-same m k (λ e. absurd (common (rw e at u) (rw e at v))) (λ ne. r .second m (omega arith) u v);
+      first-later = λ m l u v. r .first-later m (omega arith) u v;
+      second-later = λ m l u v. r .second-later m (omega arith) u v;
+      others = r .others;
+    }
+
+-- ---- a loop over a span of rows
+
+-- A loop that began at row k₀ with x₀ and is at row k with x': what had its first k₀ rows done at x₀ has its first k rows done at x'.
+pub record SpanTo (n k₀ k i j : ℕ) (c s : Float) (x₀ x' : List Float) : Type 0 where
+  pub packed : IsPacked n x'
+  pub rows : (x : List Float) → RowsRotated k₀ i j c s x x₀ → RowsRotated k i j c s x x'
+
+pub span-none : {n k i j : ℕ} {c s : Float} {x : List Float} → IsPacked n x → SpanTo n k k i j c s x x
+span-none sized = record { packed = sized; rows = λ x r. r }
+
+-- the places of a row's two entries are inside
+pub span-inside : {n k₀ k i j : ℕ} {c s : Float} {x₀ x' : List Float} {p q : ℕ} → SpanTo n k₀ k i j c s x₀ x' → IsPair n i j → k < n → p ≡ packedPlace k i → q ≡ packedPlace k j → (p < length x') × (q < length x')
+span-inside {n} {k = k} {i} {j} {x' = x'} g pair h e e' =
+    (rw e (cells-inside n k i x' (g .packed) h (omega arith)), rw e' (cells-inside n k j x' (g .packed) h (pair .inside)))
+
+pub span-more : {n k₀ k i j : ℕ} {c s : Float} {x₀ x' x'' : List Float} {p q : ℕ} → SpanTo n k₀ k i j c s x₀ x' → IsPair n i j → k < n → p ≡ packedPlace k i → q ≡ packedPlace k j → x'' ≡ twoRotated p q c s x' → SpanTo n k₀ (k + 1) i j c s x₀ x''
+span-more g pair h e e' is =
+    record {
+      packed = record { order = g .packed .order; stored = rw is (simp length-set (g .packed .stored)) };
+      rows =
+          λ x r.
+          let r' = g .rows x r in
+          rotated-more r' (record { order = g .packed .order; stored = sym (r' .same) ∙ g .packed .stored }) pair h e e' is;
+    }
+
+-- the three spans: before i, between i and j, after j
+pub span-all : {n i j k₁ k₂ k₃ : ℕ} {c s : Float} {x x₁ x₂ x₃ : List Float} → SpanTo n 0 k₁ i j c s x x₁ → k₁ ≡ i → SpanTo n (i + 1) k₂ i j c s x₁ x₂ → k₂ ≡ j → SpanTo n (j + 1) k₃ i j c s x₂ x₃ → k₃ ≡ n → RowsRotated n i j c s x x₃
+span-all {i = i} {j} {c = c} {s} {x} before before-all between between-all after after-all =
+    let to-i : RowsRotated i i j c s x _ = rw before-all at (before .rows x (rotated-none i j c s x)) in
+    let to-j : RowsRotated j i j c s x _ = rw between-all at (between .rows x (rotated-past to-i (λ u v. u refl))) in
+    rw after-all at (after .rows x (rotated-past to-j (λ u v. v refl)))
 
 -- ---- the three stores
 

@@ -9,12 +9,11 @@ use lib.Dec.{ltb}
 use lib.Ieee.{Float, nan}
 use lib.ListN.{length, set, length-set}
 use lib.Seq.{getD-set-same, getD-set-other}
-use Rattle.rules.specs.Limits.{limit}
 use Rattle.rules.specs.Arithmetic.{at}
 use Rattle.rules.specs.Jacobi.{square, inSquare, rotatedFirst, rotatedSecond, rotatedVector}
 use Rattle.rules.proofs.Columns.{by-less, by-same, square-self, square-same, square-is, square-at, square-inside, square-apart}
 use Rattle.jacobi.specs.Sizes.{IsPair}
-use Rattle.rules.proofs.Matrices.{square-small}
+use Rattle.jacobi.specs.Loops.{twoRotated}
 
 -- the first k rows are rotated
 abbrev vectorsTo : ℕ → ℕ → ℕ → ℕ → Float → Float → List Float → ℕ → ℕ → Float
@@ -33,10 +32,12 @@ vectors-none n i j c s z stored =
       within = omega arith;
     }
 
--- the entries that a row reads, and the mirror image of one, are inside
-pub vectors-inside : {n k i j : ℕ} {c s : Float} {z z' : List Float} → VectorsTo n k i j c s z z' → IsPair n i j → k < n → n ≤ limit → (i * n + k < length z') × (j * n + k < length z') × (k * n + i < length z') × (length z' ≤ limit * limit)
-vectors-inside {n} {k} {i} {j} r p h small =
-    omega (arith, square-inside n k i h (omega arith), square-inside n k j h (p .inside), square-inside n i k (omega arith) h, square-small n small)
+-- the two entries of a row are inside
+pub inside-i : {n k i j : ℕ} {c s : Float} {z z' : List Float} → VectorsTo n k i j c s z z' → IsPair n i j → k < n → i * n + k < length z'
+inside-i {n} {k} {i} r pair h = omega (arith, r .same, square-inside n k i h (omega arith))
+
+pub inside-j : {n k i j : ℕ} {c s : Float} {z z' : List Float} → VectorsTo n k i j c s z z' → IsPair n i j → k < n → j * n + k < length z'
+inside-j {n} {k} {i} {j} r pair h = omega (arith, r .same, square-inside n k j h (pair .inside))
 
 module _ (n k i j : ℕ) (c s : Float) (z z' : List Float) (r : VectorsTo n k i j c s z z') (pair : IsPair n i j) (h : k < n) where
   old : (p q : ℕ) → p < n → q < n → k ≤ p → at z' (q * n + p) ≡ inSquare n z p q
@@ -93,11 +94,11 @@ module _ (n k i j : ℕ) (c s : Float) (z z' : List Float) (r : VectorsTo n k i 
       ∙ square-at n (vectorsTo n k i j c s z) p q hp hq
       ∙ by-less p k (λ l. rw (lt-ltb p k l, lt-ltb p (k + 1) (omega arith))) (λ l. rw (le-ltb p k l, le-ltb p (k + 1) (by-less k p (λ m. omega arith) (λ m. absurd (ne (omega arith)))))))
 
-pub vectors-more : {n k i j : ℕ} {c s : Float} {z z' : List Float} → VectorsTo n k i j c s z z' → IsPair n i j → k < n → VectorsTo n (k + 1) i j c s z (set (set z' (i * n + k) (rotatedFirst c s (at z' (i * n + k)) (at z' (j * n + k)))) (j * n + k) (rotatedSecond c s (at z' (i * n + k)) (at z' (j * n + k))))
+pub vectors-more : {n k i j : ℕ} {c s : Float} {z z' z'' : List Float} → VectorsTo n k i j c s z z' → IsPair n i j → k < n → z'' ≡ twoRotated (i * n + k) (j * n + k) c s z' → VectorsTo n (k + 1) i j c s z z''
 unfolding first second once twice
-vectors-more {n} {k} {i} {j} {c} {s} {z} {z'} r pair h =
+vectors-more {n} {k} {i} {j} {c} {s} {z} {z'} r pair h is =
     let same : length (twice n k i j c s z z' r pair h) ≡ n * n = simp length-set (r .same) in
-    record { is = square-is n (vectorsTo n (k + 1) i j c s z) (twice n k i j c s z z' r pair h) same (done n k i j c s z z' r pair h); same = same; within = omega arith }
+    rw is (record { is = square-is n (vectorsTo n (k + 1) i j c s z) (twice n k i j c s z z' r pair h) same (done n k i j c s z z' r pair h); same = same; within = omega arith })
 
 pub vectors-all : {n k i j : ℕ} {c s : Float} {z z' : List Float} → VectorsTo n k i j c s z z' → n ≤ k → z' ≡ square n (rotatedVector (inSquare n z) i j c s)
 vectors-all {n} {k} {i} {j} {c} {s} {z} {z'} r h =

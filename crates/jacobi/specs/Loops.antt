@@ -4,7 +4,7 @@ use mathlib.Core.Path.{_≡_}
 use mathlib.Core.Bool.{Bool}
 use mathlib.Core.List.{List}
 use lib.Ieee.{Float}
-use lib.ListN.{length}
+use lib.ListN.{length, set}
 use Rattle.rules.specs.Arithmetic.{at}
 use Rattle.rules.specs.Matrices.{packedPlace}
 use Rattle.rules.specs.Jacobi.{Rotating, Swept, inPacked, rotatedFirst, rotatedSecond}
@@ -18,6 +18,10 @@ swept reached succeeded = record { reached = reached; succeeded = succeeded }
 -- what stands at row r and column c of a packed triangle
 abbrev pub cell : List Float → ℕ → ℕ → Float
 cell x r c = at x (packedPlace r c)
+
+-- the numbers at p and q, rotated as the first and the second of a pair
+abbrev pub twoRotated : ℕ → ℕ → Float → Float → List Float → List Float
+twoRotated p q c s x = set (set x p (rotatedFirst c s (at x p) (at x q))) q (rotatedSecond c s (at x p) (at x q))
 
 -- the entries (i, i), (j, j) and (i, j)
 pub record CornersOf (n i j : ℕ) (x : List Float) (a b d : Float) : Type 0 where

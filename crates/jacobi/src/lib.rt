@@ -12,19 +12,15 @@ ghost use Rattle.rules.specs.Matrices.{packedPlace};
 ghost use Rattle.rules.specs.Jacobi.{packed, square, inPacked, inSquare, rotatedEntry, rotatedVector, rotated, pairDone, rowDone, isRotated, jacobi, jacobiFits, JacobiOutcome};
 ghost use Rattle.rules.specs.Jacobi as rules;
 ghost use Rattle.jacobi.specs.Sizes.{IsPacked, IsSquare, IsPair, mostRotations};
-ghost use Rattle.jacobi.specs.Loops.{state, RowsRotated, CornersOf};
+ghost use Rattle.jacobi.specs.Loops.{state, twoRotated, RowsRotated, CornersOf};
 
-// Where the entry of row r and column c of a packed triangle is stored.
+// Where the entry of row r and column c of a packed triangle is stored, r being at most c.
 fn place(r: usize, c: usize) -> usize
-    requires { ⌜ r < limit ⌝ }
+    requires { ⌜ r ≤ c ⌝ }
     requires { ⌜ c < limit ⌝ }
     ensures { λ p. ⌜ p ≡ packedPlace r c ⌝ }
 {
-    if r < c {
-        triangle(c) + r
-    } else {
-        triangle(r) + c
-    }
+    triangle(c) + r
 }
 
 // The three entries that rows and columns i and j have in common: (i, i), (j, j) and (i, j).
@@ -49,23 +45,43 @@ fn read_corners(n: usize, i: usize, j: usize, x: &[f64]) -> Corners
     }
 }
 
-// Rows and columns i and j of the matrix, rotated.
+// The numbers at p and q, rotated as the first and the second of a pair.
+fn rotate_two(p: usize, q: usize, c: f64, s: f64, x: &mut [f64])
+    requires { ⌜ p < length (now x) ⌝ }
+    requires { ⌜ q < length (now x) ⌝ }
+    ensures { λ _. ⌜ now (x .exit) ≡ twoRotated p q c s (now (x .entry)) ⌝ }
+{
+    let first = x[p];
+    let second = x[q];
+    x[p] = c * first - s * second;
+    x[q] = s * first + c * second;
+}
+
+// Rows and columns i and j of the matrix, rotated, but for the three entries that they have in common: the rows before i, between i and j, and
+// after j.
 fn rotate_rows(n: usize, i: usize, j: usize, c: f64, s: f64, x: &mut [f64])
     requires { ⌜ IsPacked n (now x) ⌝ }
     requires { ⌜ IsPair n i j ⌝ }
     ensures { λ _. ⌜ RowsRotated n i j c s (now (x .entry)) (now (x .exit)) ⌝ }
 {
-    for k in 0..n {
+    for k in 0..i {
         let p = place(k, i);
         let q = place(k, j);
-        let xi = x[p];
-        let xj = x[q];
-        x[p] = c * xi - s * xj;
-        x[q] = s * xi + c * xj;
+        rotate_two(p, q, c, s, x);
+    }
+    for k in i + 1..j {
+        let p = place(i, k);
+        let q = place(k, j);
+        rotate_two(p, q, c, s, x);
+    }
+    for k in j + 1..n {
+        let p = place(i, k);
+        let q = place(j, k);
+        rotate_two(p, q, c, s, x);
     }
 }
 
-// Columns i and j of the vectors, rotated.
+// Columns i and j of the vectors, rotated in every row.
 fn rotate_vectors(n: usize, i: usize, j: usize, c: f64, s: f64, z: &mut [f64])
     requires { ⌜ IsSquare n (now z) ⌝ }
     requires { ⌜ IsPair n i j ⌝ }
@@ -74,10 +90,7 @@ fn rotate_vectors(n: usize, i: usize, j: usize, c: f64, s: f64, z: &mut [f64])
     for k in 0..n {
         let p = i * n + k;
         let q = j * n + k;
-        let zi = z[p];
-        let zj = z[q];
-        z[p] = c * zi - s * zj;
-        z[q] = s * zi + c * zj;
+        rotate_two(p, q, c, s, z);
     }
 }
 

@@ -1,19 +1,39 @@
 // The float helpers of document 01: each answers for every f64.
 ghost use mathlib.Core.Path.{_≡_};
+ghost use mathlib.Core.Bool.{_&&_};
+ghost use lib.Ieee.{eq};
+ghost use Rattle.rules.specs.Arithmetic.{+0};
 ghost use Rattle.rules.specs.Helpers as rules;
 
-// The larger of two: a NaN yields to the other, and in a tie the second is returned.
+// Whether both are zeros, of either sign.
+fn both_zero(a: f64, b: f64) -> bool
+    ensures { λ r. ⌜ r ≡ (eq a +0 && eq b +0) ⌝ }
+{
+    a == 0.0 && b == 0.0
+}
+
+// The larger of two, the standard's maximumNumber: a NaN yields to the other, and −0 lies below +0.
 pub fn larger(a: f64, b: f64) -> f64
     ensures { λ r. ⌜ r ≡ rules.larger a b ⌝ }
 {
-    if b < a { a } else { if b == b { b } else { a } }
+    // the sum of two zeros is −0 where both are
+    if both_zero(a, b) {
+        a + b
+    } else {
+        if b < a { a } else { if b == b { b } else { a } }
+    }
 }
 
-// The smaller of two: a NaN yields to the other, and in a tie the second is returned.
+// The smaller of two, minimumNumber, likewise.
 pub fn smaller(a: f64, b: f64) -> f64
     ensures { λ r. ⌜ r ≡ rules.smaller a b ⌝ }
 {
-    if a < b { a } else { if b == b { b } else { a } }
+    // as the sum of their opposites is −0 where both are +0
+    if both_zero(a, b) {
+        -(-a - b)
+    } else {
+        if a < b { a } else { if b == b { b } else { a } }
+    }
 }
 
 // The absolute value: the sign is cleared, a zero's too.

@@ -303,3 +303,20 @@ impl fmt::LowerExp for Seen {
         write!(f, "{:016x}", word(self.0))
     }
 }
+
+#[cfg(test)]
+mod tests {
+    use super::*;
+
+    /// Whichever zero the machine has, the original is handed the standard's.
+    #[test]
+    fn the_standards_zero() {
+        watch(1);
+        assert_eq!(word(chosen(0.0, -0.0, -0.0, 0.0).0), 0);
+        assert_eq!((sight().unlike_zeros, sight().other_zeros), (1, 1));
+        assert_eq!(word(chosen(0.0, -0.0, 0.0, 0.0).0), 0);
+        assert_eq!((sight().unlike_zeros, sight().other_zeros), (2, 1));
+        assert_eq!(word(chosen(-0.0, -0.0, -0.0, -0.0).0), 1 << 63);
+        assert_eq!((sight().unlike_zeros, sight().other_zeros), (2, 1));
+    }
+}

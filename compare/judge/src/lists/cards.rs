@@ -507,10 +507,7 @@ pub fn make(seed: u64, folder: &Path, stories: &Path) -> Result<()> {
     for name in NAMES {
         println!("  {:6} {name}", all.counts.get(name).unwrap_or(&0));
     }
-    println!(
-        "{} with a larger or smaller of -0 and +0",
-        all.unlike_zeros
-    );
+    println!("{} with a larger or smaller of -0 and +0", all.unlike_zeros);
     Ok(())
 }
 

@@ -10,7 +10,7 @@ use crate::cone_list::{work_len, Block, ConeList, Progress};
 use crate::draw::{number, numbers, Sort, SORTS, SPECIAL};
 use crate::original::{self as ask, Kind, KINDS};
 use crate::random::Random;
-use crate::seen::{sight, watch, Number, Seen};
+use crate::seen::{sight, watch, Number, Seen, Sight};
 use crate::words::{words, write_list};
 
 const ZERO: u64 = 1;

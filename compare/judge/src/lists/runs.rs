@@ -41,10 +41,7 @@ const NAMES: [(u64, &str); 12] = [
 const DIFFERENCES: [(u64, &str); 5] = [
     (EPS_ZERO, "eps_zero of -0"),
     (SWEEP_LIMIT, "a sweep limit reached"),
-    (
-        ZEROS,
-        "a larger or smaller of -0 and +0",
-    ),
+    (ZEROS, "a larger or smaller of -0 and +0"),
     (STOPS, "an empty matrix on which the original stops"),
     (BELOW_ZERO, "refused for a tolerance below zero alone"),
 ];

@@ -1,5 +1,5 @@
 -- `float::larger` meets its contract: two zeros are answered by their signs, and else each arm returns what the rule's tests pick.
-use mathlib.Core.Path.{_∙_, sym}
+use mathlib.Core.Path.{sym}
 use Rattle.rules.proofs.Helpers.{larger-tested}
 use borrow.Author.Needs.{needs}
 use Rattle.float.proofs.larger.Statement.{statement}

@@ -1,5 +1,5 @@
 -- `float::smaller` meets its contract: two zeros are answered by their signs, and else each arm returns what the rule's tests pick.
-use mathlib.Core.Path.{_∙_, sym}
+use mathlib.Core.Path.{sym}
 use Rattle.rules.proofs.Helpers.{smaller-tested}
 use borrow.Author.Needs.{needs}
 use Rattle.float.proofs.smaller.Statement.{statement}

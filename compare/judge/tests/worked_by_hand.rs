@@ -57,9 +57,6 @@ fn larger_and_smaller_of_zeros() {
         assert_eq!(Seen(a).min(Seen(b)).0.to_bits(), 1 << 63);
         assert_eq!(Seen(a).max(Seen(b)).0.to_bits(), 0);
     }
-    let mut x = [Seen(-0.0), Seen(-3.0), Seen(2.0)];
-    ask::proj(Kind::Nonnegative, false, &mut x, &mut [], Seen(0.0)).unwrap();
-    assert_eq!(words(&x.map(|v| v.0)), words(&[0.0, 0.0, 2.0]));
 }
 
 #[test]

@@ -1,6 +1,6 @@
 // The float helpers of document 01: each answers for every f64.
 ghost use mathlib.Core.Path.{_≡_};
-ghost use mathlib.Core.Bool.{_&&_};
+ghost use mathlib.Core.Bool.{cond, _&&_};
 ghost use lib.Ieee.{eq};
 ghost use Rattle.rules.specs.Arithmetic.{+0};
 ghost use Rattle.rules.specs.Helpers as rules;
@@ -12,16 +12,21 @@ fn both_zero(a: f64, b: f64) -> bool
     a == 0.0 && b == 0.0
 }
 
+// The first where it is picked, or where the second is a NaN; else the second.
+fn picked(first: bool, a: f64, b: f64) -> f64
+    ensures { λ r. ⌜ r ≡ cond first a (cond (eq b b) b a) ⌝ }
+{
+    if first { a } else { if b == b { b } else { a } }
+}
+
 // The larger of two, the standard's maximumNumber: a NaN yields to the other, and −0 lies below +0.
 pub fn larger(a: f64, b: f64) -> f64
     ensures { λ r. ⌜ r ≡ rules.larger a b ⌝ }
 {
     // the sum of two zeros is −0 where both are
-    if both_zero(a, b) {
-        a + b
-    } else {
-        if b < a { a } else { if b == b { b } else { a } }
-    }
+    let of_zeros = a + b;
+    let of_others = picked(b < a, a, b);
+    if both_zero(a, b) { of_zeros } else { of_others }
 }
 
 // The smaller of two, minimumNumber, likewise.
@@ -29,11 +34,9 @@ pub fn smaller(a: f64, b: f64) -> f64
     ensures { λ r. ⌜ r ≡ rules.smaller a b ⌝ }
 {
     // as the sum of their opposites is −0 where both are +0
-    if both_zero(a, b) {
-        -(-a - b)
-    } else {
-        if a < b { a } else { if b == b { b } else { a } }
-    }
+    let of_zeros = -(-a - b);
+    let of_others = picked(a < b, a, b);
+    if both_zero(a, b) { of_zeros } else { of_others }
 }
 
 // The absolute value: the sign is cleared, a zero's too.

@@ -23,7 +23,7 @@ fn picked(first: bool, a: f64, b: f64) -> f64
 pub fn larger(a: f64, b: f64) -> f64
     ensures { λ r. ⌜ r ≡ rules.larger a b ⌝ }
 {
-    // the sum of two zeros is −0 where both are
+    // the sum of two zeros is −0 where both are −0
     let of_zeros = a + b;
     let of_others = picked(b < a, a, b);
     if both_zero(a, b) { of_zeros } else { of_others }
@@ -33,7 +33,7 @@ pub fn larger(a: f64, b: f64) -> f64
 pub fn smaller(a: f64, b: f64) -> f64
     ensures { λ r. ⌜ r ≡ rules.smaller a b ⌝ }
 {
-    // as the sum of their opposites is −0 where both are +0
+    // of two zeros the opposites' sum is −0 where both are +0; its opposite is the smaller
     let of_zeros = -(-a - b);
     let of_others = picked(a < b, a, b);
     if both_zero(a, b) { of_zeros } else { of_others }

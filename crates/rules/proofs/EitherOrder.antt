@@ -1,8 +1,8 @@
 -- Larger and smaller of two f64 don't ask which stands first: where neither is less than the other, the two are one.
-use Prim.Native.Nat.{ℕ, zero, suc, _+_, _*_, _^_, _≤_, _<_}
+use Prim.Native.Nat.{ℕ, zero, suc, _+_, _*_, _^_}
 use native.Mathlib.Nat.{le-antisymm, mul-pos, mul-right-comm, eq-of-mul-eq-mul-right}
 use native.Mathlib.Omega.{arith}
-use lib.IntN.{ℤ, pos, negsuc}
+use lib.IntN.{ℤ}
 use borrow.Author.Tests.{lt-ltb}
 use mathlib.Core.Path.{_≡_, refl, sym, _∙_, ap}
 use mathlib.Core.Bool.{Bool, true, false, cond, _&&_, _||_, true≢false, false≢true}
@@ -42,12 +42,12 @@ or-true : (p : Bool) {t : Bool} → t ≡ true → (p || t) ≡ true
 or-true true h = refl
 or-true false h = h
 
--- what is not +0 has no −0 below it but as numbers compare
+-- beside what is not +0 two compare as ever
 no-plus-zero : (p t : Bool) → (p && false || t) ≡ t
 no-plus-zero true t = refl
 no-plus-zero false t = refl
 
--- Of two numbers of unlike signs the one with the sign is less, −0 and +0 included.
+-- Of two numbers of unlike signs the negative one is less, and so is −0 beside +0.
 unlike-signs : (m n : ℕ) (e d : ℤ) → less (fin true m e) (fin false n d) ≡ true
 unfolding less lt
 unlike-signs zero zero e d = refl
@@ -56,7 +56,8 @@ unlike-signs (suc m) n e d =
 unlike-signs zero (suc n) e d =
     or-true (eqb 0 0 && eqb (suc n) 0) (lt-ltb 0 (0 * up e * down d + suc n * up d * down e) (omega (arith, mul-pos (above-zero n d) (down-pos e))))
 
-neither-is-less : (a b : Float) → T (fits binary64 a) → T (fits binary64 b) → isNan a ≡ false → isNan b ≡ false → less a b ≡ false → less b a ≡ false → a ≡ b
+-- Where neither is less the two are one f64.
+pub neither-is-less : (a b : Float) → T (fits binary64 a) → T (fits binary64 b) → isNan a ≡ false → isNan b ≡ false → less a b ≡ false → less b a ≡ false → a ≡ b
 unfolding less lt isNan neg
 neither-is-less nan b p q x y h k = absurd (true≢false x)
 neither-is-less (inf s) nan p q x y h k = absurd (true≢false y)

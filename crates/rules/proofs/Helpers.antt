@@ -112,7 +112,7 @@ zero-of (inf s) t h = absurd (false≢true h)
 zero-of (fin s zero e) t h = ap (λ (d : ℤ). fin s 0 d) (zero-exponent e t)
 zero-of (fin s (suc m) e) t h = absurd (false≢true (sym (equals-zero (fin s (suc m) e) ∙ not-zero s m e) ∙ h))
 
--- Of two zeros the larger is their sum, and the smaller the opposite of what their opposites come to.
+-- Of two zeros the larger is their sum, and the smaller the opposite of the sum of their opposites.
 larger-of-zeros : (s t : Bool) → larger (fin s 0 (pos 0)) (fin t 0 (pos 0)) ≡ add binary64 (fin s 0 (pos 0)) (fin t 0 (pos 0))
 unfolding larger add
 larger-of-zeros true true = refl

@@ -5,7 +5,8 @@ use lib.Dec.{eqb}
 use lib.Ieee as Ieee
 use lib.Ieee.{Float, nan, inf, fin, binary64, ofBits, isNan}
 
--- Larger and smaller of two, request (iv) of document 02: IEEE 754-2019's maximumNumber and minimumNumber. A number is preferred to a NaN; two NaN give NaN.
+-- Larger and smaller of two, request (iv) of document 02: IEEE 754-2019's maximumNumber and minimumNumber, for numbers and quiet NaN.
+-- "A NaN yields to the other operand"; two NaN give NaN.
 unfoldable pub yielding : Float → Float → Float → Float
 unfolding isNan
 yielding a b ofNumbers = cond (isNan a) b (cond (isNan b) a ofNumbers)
@@ -16,17 +17,17 @@ isZero s nan = false
 isZero s (inf t) = false
 isZero s (fin t m e) = Bool·beq s t && eqb m 0
 
--- "−0 compares less than +0", and all else compares as ever
+-- −0 is less than +0, and all else compares as ever
 unfoldable pub less : Float → Float → Bool
 unfolding Ieee.lt
 less a b = isZero true a && isZero false b || Ieee.lt a b
 
--- maximumNumber is a if a is greater, b if b is greater, and either of them if neither is: they are one f64 then (`neither-is-less`).
+-- maximumNumber: a if b is less, b if a is less, and if neither is, either of them: they are one f64 then (`neither-is-less`, proofs/EitherOrder.antt)
 unfoldable pub larger : Float → Float → Float
 unfolding yielding less
 larger a b = yielding a b (cond (less b a) a b)
 
--- minimumNumber, by the same words with less for greater
+-- minimumNumber: a if a is less, b if b is less, and if neither is, either of them
 unfoldable pub smaller : Float → Float → Float
 unfolding yielding less
 smaller a b = yielding a b (cond (less a b) a b)

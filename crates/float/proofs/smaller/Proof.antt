@@ -1,4 +1,4 @@
--- `float::smaller` meets its contract: two zeros are answered by their signs, all else by the rule's tests.
+-- `float::smaller` meets its contract: of two zeros the sum tells, of all else the rule's tests.
 use mathlib.Core.Path.{sym}
 use Rattle.rules.proofs.Helpers.{smaller-tested}
 use borrow.Author.Needs.{needs}

@@ -6,7 +6,7 @@ use lib.IntN.{ℤ}
 use borrow.Author.Tests.{lt-ltb}
 use mathlib.Core.Path.{_≡_, refl, sym, _∙_, ap}
 use mathlib.Core.Bool.{Bool, true, false, cond, _&&_, _||_, true≢false, false≢true}
-use lib.Dec.{T, ltb, eqb, nltb→le, ltb→lt}
+use lib.Dec.{T, ltb, eqb, eqb·suc-zero, nltb→le, ltb→lt}
 use lib.Ieee.{Float, nan, inf, fin, isNan, lt, neg, fits, binary64, low, up, down}
 use lib.Ieee.Fits.{down-pos, neg-fits}
 use Rattle.rules.specs.Helpers.{isZero, less, larger, smaller}
@@ -38,10 +38,6 @@ same-magnitude m n e d p q h k =
     same-value binary64 (fin false m e) (fin false n d) tt tt p q
     (same-units m n e d p q (le-antisymm (nltb→le (n * up d * down e) (m * up e * down d) (rw k tt)) (nltb→le (m * up e * down d) (n * up d * down e) (rw h tt))))
 
-or-true : (p : Bool) {t : Bool} → t ≡ true → (p || t) ≡ true
-or-true true h = refl
-or-true false h = h
-
 -- beside what is not +0 two compare as ever
 no-plus-zero : (p t : Bool) → (p && false || t) ≡ t
 no-plus-zero true t = refl
@@ -52,9 +48,9 @@ unlike-signs : (m n : ℕ) (e d : ℤ) → less (fin true m e) (fin false n d) �
 unfolding less lt
 unlike-signs zero zero e d = refl
 unlike-signs (suc m) n e d =
-    or-true (eqb (suc m) 0 && eqb n 0) (lt-ltb 0 (suc m * up e * down d + n * up d * down e) (omega (arith, mul-pos (above-zero m e) (down-pos d))))
+    rw (eqb·suc-zero m, lt-ltb 0 (suc m * up e * down d + n * up d * down e) (omega (arith, mul-pos (above-zero m e) (down-pos d))))
 unlike-signs zero (suc n) e d =
-    or-true (eqb 0 0 && eqb (suc n) 0) (lt-ltb 0 (0 * up e * down d + suc n * up d * down e) (omega (arith, mul-pos (above-zero n d) (down-pos e))))
+    rw (eqb·suc-zero n, lt-ltb 0 (0 * up e * down d + suc n * up d * down e) (omega (arith, mul-pos (above-zero n d) (down-pos e))))
 
 -- Where neither is less the two are one f64.
 pub neither-is-less : (a b : Float) → T (fits binary64 a) → T (fits binary64 b) → isNan a ≡ false → isNan b ≡ false → less a b ≡ false → less b a ≡ false → a ≡ b

@@ -7,8 +7,9 @@ use lib.Pow.{pow-lt}
 use borrow.Author.Tests.{lt-ltb, le-ltb, ne-eqb}
 use mathlib.Core.Path.{_≡_, refl, sym, _∙_, ap}
 use mathlib.Core.Bool.{Bool, true, false, not, cond, _&&_, _||_, true≢false, false≢true}
+use mathlib.Core.Logic.{_⊎_, inl, inr}
 use lib.Dec.{T, eqb, eqb-refl, eqb→eq, eqb·suc-zero}
-use lib.Ieee.{Float, nan, inf, fin, isNan, lt, eq, neg, add, sub, fits, ofBits, binary64, up, down}
+use lib.Ieee.{Float, nan, inf, fin, isNan, lt, eq, neg, fits, ofBits, binary64, up, down}
 use lib.Ieee.Bits.{is-true}
 use lib.Ieee.Fits.{up-pos}
 use Rattle.rules.specs.Helpers.{isZero, less, larger, smaller, magnitude}
@@ -59,11 +60,6 @@ equals-zero (fin false zero e) = rw (zero-mul (up e), zero-mul (down e))
 equals-zero (fin true (suc m) e) = rw (ne-eqb (suc m * up e * 1) (0 * down e) (λ q. omega (arith, above-zero m e)), not-zero true m e)
 equals-zero (fin false (suc m) e) = rw (ne-eqb (suc m * up e * 1) (0 * down e) (λ q. omega (arith, above-zero m e)), not-zero false m e)
 
-by-zeros : {x y z : Float} (p q : Bool) → (p ≡ true → q ≡ true → x ≡ y) → ((p && q) ≡ false → x ≡ z) → x ≡ cond (p && q) y z
-by-zeros true true h k = h refl refl
-by-zeros true false h k = k refl
-by-zeros false q h k = k refl
-
 -- Unless both are zeros, floats compare as ever.
 no-unlike : (p q r s t : Bool) → ((p || q) && (r || s)) ≡ false → (p && s || t) ≡ t
 no-unlike true q true true t h = absurd (true≢false h)
@@ -99,65 +95,27 @@ lt-nan nan = refl
 lt-nan (inf s) = refl
 lt-nan (fin s m e) = refl
 
--- A zero that fits the format has nothing but its sign.
-abbrev signOf : Float → Bool
-signOf nan = false
-signOf (inf s) = s
-signOf (fin s m e) = s
-
-zero-of : (x : Float) → T (fits binary64 x) → eq x +0 ≡ true → x ≡ fin (signOf x) 0 (pos 0)
+-- A zero that fits the format is −0 or +0.
+pub zero-is : (x : Float) → T (fits binary64 x) → eq x +0 ≡ true → (x ≡ fin true 0 (pos 0)) ⊎ (x ≡ fin false 0 (pos 0))
 unfolding eq ofBits fits
-zero-of nan t h = absurd (false≢true h)
-zero-of (inf s) t h = absurd (false≢true h)
-zero-of (fin s zero e) t h = ap (λ (d : ℤ). fin s 0 d) (zero-exponent e t)
-zero-of (fin s (suc m) e) t h = absurd (false≢true (sym (equals-zero (fin s (suc m) e) ∙ not-zero s m e) ∙ h))
+zero-is nan t h = absurd (false≢true h)
+zero-is (inf s) t h = absurd (false≢true h)
+zero-is (fin true zero e) t h = inl (ap (λ (d : ℤ). fin true 0 d) (zero-exponent e t))
+zero-is (fin false zero e) t h = inr (ap (λ (d : ℤ). fin false 0 d) (zero-exponent e t))
+zero-is (fin s (suc m) e) t h = absurd (false≢true (sym (equals-zero (fin s (suc m) e) ∙ not-zero s m e) ∙ h))
 
--- Of two zeros the larger is their sum, and the smaller the opposite of the sum of their opposites.
-larger-of-zeros : (s t : Bool) → larger (fin s 0 (pos 0)) (fin t 0 (pos 0)) ≡ add binary64 (fin s 0 (pos 0)) (fin t 0 (pos 0))
-unfolding larger add
-larger-of-zeros true true = refl
-larger-of-zeros true false = refl
-larger-of-zeros false true = refl
-larger-of-zeros false false = refl
-
-smaller-of-zeros : (s t : Bool) → smaller (fin s 0 (pos 0)) (fin t 0 (pos 0)) ≡ neg (sub binary64 (neg (fin s 0 (pos 0))) (fin t 0 (pos 0)))
-unfolding smaller sub neg
-smaller-of-zeros true true = refl
-smaller-of-zeros true false = refl
-smaller-of-zeros false true = refl
-smaller-of-zeros false false = refl
-
-larger-of-others : (a b : Float) → (eq a +0 && eq b +0) ≡ false → larger a b ≡ cond (lt b a) a (cond (eq b b) b a)
+-- Unless both are zeros, larger and smaller are found by these tests.
+pub larger-of-others : (a b : Float) → (eq a +0 && eq b +0) ≡ false → larger a b ≡ cond (lt b a) a (cond (eq b b) b a)
 unfolding larger
 larger-of-others a b h =
     rw (less-as-ever b a (swapped (eq b +0) (eq a +0) ∙ h), equals-itself b)
     (sym (by-tests (lt b a) (isNan a) (isNan b) a b (λ p. ap (lt b) (only-nan a p) ∙ lt-nan b) (λ p r. only-nan a p ∙ sym (only-nan b r))))
 
-pub larger-tested : (a b : Float) → T (fits binary64 a) → T (fits binary64 b)
-    → larger a b ≡ cond (eq a +0 && eq b +0) (add binary64 a b) (cond (lt b a) a (cond (eq b b) b a))
-larger-tested a b s t = by-zeros (eq a +0) (eq b +0) zeros (larger-of-others a b)
-  where
-    zeros : eq a +0 ≡ true → eq b +0 ≡ true → larger a b ≡ add binary64 a b
-    zeros p q =
-        let x = zero-of a s p in
-        let y = zero-of b t q in
-        (λ i. larger (x i) (y i)) ∙ larger-of-zeros (signOf a) (signOf b) ∙ sym (λ i. add binary64 (x i) (y i))
-
-smaller-of-others : (a b : Float) → (eq a +0 && eq b +0) ≡ false → smaller a b ≡ cond (lt a b) a (cond (eq b b) b a)
+pub smaller-of-others : (a b : Float) → (eq a +0 && eq b +0) ≡ false → smaller a b ≡ cond (lt a b) a (cond (eq b b) b a)
 unfolding smaller
 smaller-of-others a b h =
-    rw (less-as-ever a b (h), equals-itself b)
+    rw (less-as-ever a b h, equals-itself b)
     (sym (by-tests (lt a b) (isNan a) (isNan b) a b (λ p. ap (λ (x : Float). lt x b) (only-nan a p)) (λ p r. only-nan a p ∙ sym (only-nan b r))))
-
-pub smaller-tested : (a b : Float) → T (fits binary64 a) → T (fits binary64 b)
-    → smaller a b ≡ cond (eq a +0 && eq b +0) (neg (sub binary64 (neg a) b)) (cond (lt a b) a (cond (eq b b) b a))
-smaller-tested a b s t = by-zeros (eq a +0) (eq b +0) zeros (smaller-of-others a b)
-  where
-    zeros : eq a +0 ≡ true → eq b +0 ≡ true → smaller a b ≡ neg (sub binary64 (neg a) b)
-    zeros p q =
-        let x = zero-of a s p in
-        let y = zero-of b t q in
-        (λ i. smaller (x i) (y i)) ∙ smaller-of-zeros (signOf a) (signOf b) ∙ sym (λ i. neg (sub binary64 (neg (x i)) (y i)))
 
 -- ---- absolute value
 

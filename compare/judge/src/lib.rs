@@ -11,6 +11,7 @@ pub mod problem;
 pub mod random;
 pub mod ruled_sums;
 pub mod seen;
+pub mod standard;
 pub mod survey;
 pub mod text;
 pub mod words;

@@ -39,9 +39,17 @@ pub struct Answer {
     pub q: u64,
     pub work: Vec<f64>,
     pub cone_work: Vec<f64>,
-    /// Zeros that came out otherwise than the rule has it, and all of unlike sign: see `seen`.
+    /// Larger and smaller of −0 and +0: those that the machine has otherwise, and all. See `seen`.
     pub other_zeros: u64,
     pub unlike_zeros: u64,
+}
+
+impl Answer {
+    /// Whether the original over plain f64 must come to the same: it ends, and the machine has each
+    /// zero as the standard has it.
+    pub fn has_plain_form(&self) -> bool {
+        !matches!(self.ending, Ending::ConeFailure(_)) && self.other_zeros == 0
+    }
 }
 
 /// What the original itself says.

@@ -1,8 +1,8 @@
 //! An f64 that is watched while the original computes with it. The original is generic over its
 //! number, so what it keeps to itself can be seen from below, its text unchanged: the rotations
 //! made, the sweeps taken (and a stop when they pass the limit), the criteria in full, and
-//! every larger or smaller of two zeros that comes out other than the second, or of a signalling
-//! NaN.
+//! every larger or smaller of −0 and +0, or of a signalling NaN. Of −0 and +0 it hands the original
+//! the standard's zero, whichever the machine has, and counts where the machine has the other.
 
 use num_traits::{Float, NumCast, One, ToPrimitive, Zero};
 use std::cell::Cell;
@@ -11,6 +11,7 @@ use std::fmt;
 use std::ops::{Add, Div, Mul, Neg, Sub};
 use std::panic::resume_unwind;
 
+use crate::standard::{maximum_number, minimum_number, unlike_zeros};
 use crate::words::{signalling, word};
 
 /// What the judge runs the original over: plain f64, or watched.
@@ -82,7 +83,7 @@ thread_local! {
 /// What was seen since `watch`.
 pub struct Sight {
     pub rotations: u64,
-    /// How often a larger or smaller of -0 and +0 was not the second of the two.
+    /// How often the machine's own larger or smaller of -0 and +0 was not the standard's.
     pub other_zeros: u64,
     /// How often there was a larger or smaller of -0 and +0.
     pub unlike_zeros: u64,
@@ -183,17 +184,21 @@ impl PartialOrd for Seen {
     }
 }
 
-/// Counts an answer drawn from two zeros of unlike sign, and whether it is not the second, and one
-/// that a signalling NaN had part in.
-fn chosen(a: f64, b: f64, answer: f64) -> Seen {
+/// The standard's answer, which is the machine's wherever −0 does not stand beside +0. Counts where it
+/// does, and what a signalling NaN had part in, which the machine answers.
+fn chosen(a: f64, b: f64, machine: f64, standard: f64) -> Seen {
     let mut w = WATCH.get();
-    if a == 0.0 && b == 0.0 {
-        w.unlike_zeros += u64::from(a.to_bits() != b.to_bits());
-        w.other_zeros += u64::from(answer.to_bits() != b.to_bits());
-    }
-    if signalling(a) || signalling(b) {
+    let answer = if signalling(a) || signalling(b) {
         w.signalling += 1;
-    }
+        machine
+    } else if unlike_zeros(a, b) {
+        w.unlike_zeros += 1;
+        w.other_zeros += u64::from(word(machine) != word(standard));
+        standard
+    } else {
+        assert_eq!(word(machine), word(standard));
+        machine
+    };
     WATCH.set(w);
     Seen(answer)
 }
@@ -209,10 +214,12 @@ impl Float for Seen {
         Seen(Float::abs(self.0))
     }
     fn max(self, other: Seen) -> Seen {
-        chosen(self.0, other.0, Float::max(self.0, other.0))
+        let (a, b) = (self.0, other.0);
+        chosen(a, b, Float::max(a, b), maximum_number(a, b))
     }
     fn min(self, other: Seen) -> Seen {
-        chosen(self.0, other.0, Float::min(self.0, other.0))
+        let (a, b) = (self.0, other.0);
+        chosen(a, b, Float::min(a, b), minimum_number(a, b))
     }
     fn recip(self) -> Seen {
         Seen(Float::recip(self.0))
@@ -294,5 +301,22 @@ impl fmt::Debug for Seen {
 impl fmt::LowerExp for Seen {
     fn fmt(&self, f: &mut fmt::Formatter) -> fmt::Result {
         write!(f, "{:016x}", word(self.0))
+    }
+}
+
+#[cfg(test)]
+mod tests {
+    use super::*;
+
+    /// Whichever zero the machine has, the original is handed the standard's.
+    #[test]
+    fn the_standards_zero() {
+        watch(1);
+        assert_eq!(word(chosen(0.0, -0.0, -0.0, 0.0).0), 0);
+        assert_eq!((sight().unlike_zeros, sight().other_zeros), (1, 1));
+        assert_eq!(word(chosen(0.0, -0.0, 0.0, 0.0).0), 0);
+        assert_eq!((sight().unlike_zeros, sight().other_zeros), (2, 1));
+        assert_eq!(word(chosen(-0.0, -0.0, -0.0, -0.0).0), 1 << 63);
+        assert_eq!((sight().unlike_zeros, sight().other_zeros), (2, 1));
     }
 }

@@ -21,7 +21,7 @@ pub fn survey(seed: u64, count: usize) {
     let mut random = Random::new(seed);
     let mut endings: BTreeMap<&str, usize> = BTreeMap::new();
     let mut below_zero = 0;
-    let (mut stopped, mut steps, mut rotations, mut other_zeros, mut unlike) = (0, 0, 0, 0, 0);
+    let (mut stopped, mut steps, mut rotations, mut zeros, mut unlike) = (0, 0, 0, 0, 0);
     for i in 0..count {
         let drawn = small(&mut random, FAMILIES[i % FAMILIES.len()]);
         below_zero += usize::from(drawn.is_below_zero());
@@ -31,10 +31,8 @@ pub fn survey(seed: u64, count: usize) {
         *endings.entry(ending_name(&answer.ending)).or_default() += 1;
         steps += answer.k;
         rotations += answer.q;
-        if answer.other_zeros > 0 {
-            other_zeros += 1;
-        }
-        if !matches!(answer.ending, Ending::ConeFailure(_)) {
+        zeros += usize::from(answer.unlike_zeros > 0);
+        if answer.has_plain_form() {
             let plain = p.run::<f64>();
             let same = plain.progress.steps == answer.k
                 && words(&plain.work) == words(&answer.work)
@@ -52,6 +50,6 @@ pub fn survey(seed: u64, count: usize) {
     println!("{below_zero} with a tolerance below zero, which is refused, had with -0 for it");
     println!("{stopped} runs on whose empty matrix the original stops, had with the rule's sums");
     println!("{steps} steps, {rotations} rotations");
-    println!("{other_zeros} runs with a larger or smaller of -0 and +0 other than the second");
+    println!("{zeros} runs with a larger or smaller of -0 and +0");
     println!("{unlike} runs whose watched and plain forms differ");
 }

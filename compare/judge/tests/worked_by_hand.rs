@@ -1,6 +1,7 @@
 //! The cases worked by hand in document 01 that the original can answer, and what the judge
 //! relies on.
 
+use num_traits::Float;
 use std::panic::catch_unwind;
 use totsu_core::MatType;
 
@@ -47,6 +48,15 @@ fn larger_and_smaller() {
     assert_eq!(ask::larger(f64::NAN, 0.0).to_bits(), 0);
     assert_eq!(ask::smaller(1.0, f64::NAN), 1.0);
     assert_eq!(ask::larger(1.0, 2.0), 2.0);
+}
+
+/// As request (iv) of document 02 mends it: the original, lent the standard's zeros.
+#[test]
+fn larger_and_smaller_of_zeros() {
+    for (a, b) in [(-0.0, 0.0), (0.0, -0.0)] {
+        assert_eq!(Seen(a).min(Seen(b)).0.to_bits(), 1 << 63);
+        assert_eq!(Seen(a).max(Seen(b)).0.to_bits(), 0);
+    }
 }
 
 #[test]

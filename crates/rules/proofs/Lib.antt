@@ -3,6 +3,7 @@ pub mod Root
 pub mod RootNearest
 pub mod RootOnly
 pub mod RootPatterns
+pub mod EitherOrder
 pub mod Arithmetic
 pub mod Triangle
 pub mod Columns

@@ -12,4 +12,4 @@ use Rattle.rules.specs.WorkedByHand.{AllHold, table}
 
 pub worked-by-hand : AllHold table
 unfolding ofBits ofInt neg larger smaller root opped transOpped absaddedCols absaddedRows projSOC solved defaults readWord
-worked-by-hand = (refl, (refl, (refl, (refl, (refl, (refl, (refl, (refl, (refl, (refl, (refl, (refl, (refl, (refl, (refl, (refl, (refl, (refl, (refl, (refl, (refl, tt)))))))))))))))))))))
+worked-by-hand = (refl, (refl, (refl, (refl, (refl, (refl, (refl, (refl, (refl, (refl, (refl, (refl, (refl, (refl, (refl, (refl, (refl, (refl, (refl, (refl, (refl, (refl, (refl, (refl, (refl, tt)))))))))))))))))))))))))

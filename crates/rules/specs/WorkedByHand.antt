@@ -1,4 +1,4 @@
--- Document 01, "Worked by hand": the cases marked P, as rows of one table, with the cone word that 01 names and request (ii) of document 02. `proofs/WorkedByHand.antt` proves the one claim that every row holds.
+-- Document 01, "Worked by hand": the cases marked P, as rows of one table, with the cone word that 01 names and requests (ii) and (iv) of document 02. `proofs/WorkedByHand.antt` proves the one claim that every row holds.
 use Prim.Native.Nat.{ℕ}
 use mathlib.Core.Path.{_≡_}
 use mathlib.Core.List.{List, [], _∷_}
@@ -104,7 +104,8 @@ table =
     ∷ (root binary64 (fin false 1 (negsuc 1073)) comes-to fin false 1 (negsuc 536))
     ∷ (root binary64 (whole 2) comes-to f64 0x3ff6_a09e_667f_3bcd)
     ∷ (larger nan +0 comes-to +0)
-    ∷ (smaller −0 +0 comes-to +0)
+    -- as request (iv) of document 02 mends it
+    ∷ (smaller −0 +0 comes-to −0)
     ∷ (opped two-by-two (whole 1) dense (pair (whole 1) (whole 1)) +0 (pair +0 +0) comes-to pair (whole 4) (whole 6))
     ∷ (transOpped two-by-two (whole 1) dense (pair (whole 1) (whole 1)) +0 (pair +0 +0) comes-to pair (whole 3) (whole 7))
     ∷ (absaddedCols symmetric packed (pair +0 +0) comes-to pair (whole 3) (whole 5))
@@ -122,4 +123,9 @@ table =
     ∷ (solved (withTolerances (minus 1) (oneOver 1_000_000)) (held 5) [] comes-to turnedAway BadParam (held 5) [])
     ∷ (solved (withTolerances (oneOver 1_000_000) nextBelow0) (held 6) [] comes-to turnedAway BadParam (held 6) [])
     ∷ (solved (withTolerances −0 −0) (held 6) [] .answer comes-to answered (Converged +0 +0 +0) 1 0)
+    -- nor these, but request (iv)
+    ∷ (smaller +0 −0 comes-to −0)
+    ∷ (larger −0 +0 comes-to +0)
+    ∷ (larger +0 −0 comes-to +0)
+    ∷ (larger nan nan comes-to nan)
     ∷ []

@@ -32,8 +32,8 @@ struct Cards {
     largest: usize,
     /// Each card with a finite eps_acc or eps_inf below zero, with −0 for it.
     raised: Vec<Card>,
-    /// Left out: a larger or smaller of −0 and +0 came out otherwise than the second.
-    other_zeros: usize,
+    /// With a larger or smaller of −0 and +0.
+    unlike_zeros: usize,
 }
 
 /// What is counted, in the order in which it is printed.
@@ -68,10 +68,7 @@ impl Cards {
             Told::Refused(number) => NAMES[*number as usize + 4],
             Told::Ended(problem, answer) => {
                 same_over_plain(problem, answer);
-                if answer.other_zeros > 0 {
-                    self.other_zeros += 1;
-                    return;
-                }
+                self.unlike_zeros += usize::from(answer.unlike_zeros > 0);
                 answer.ending.name()
             }
         };
@@ -510,10 +507,7 @@ pub fn make(seed: u64, folder: &Path, stories: &Path) -> Result<()> {
     for name in NAMES {
         println!("  {:6} {name}", all.counts.get(name).unwrap_or(&0));
     }
-    println!(
-        "{} left out: a larger or smaller of -0 and +0 other than the second",
-        all.other_zeros
-    );
+    println!("{} with a larger or smaller of -0 and +0", all.unlike_zeros);
     Ok(())
 }
 

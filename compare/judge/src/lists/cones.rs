@@ -10,7 +10,7 @@ use crate::cone_list::{work_len, Block, ConeList, Progress};
 use crate::draw::{number, numbers, Sort, SORTS, SPECIAL};
 use crate::original::{self as ask, Kind, KINDS};
 use crate::random::Random;
-use crate::seen::{sight, watch, Number, Seen};
+use crate::seen::{sight, watch, Number, Seen, Sight};
 use crate::words::{words, write_list};
 
 const ZERO: u64 = 1;
@@ -42,9 +42,10 @@ struct Records {
     counts: std::collections::BTreeMap<u64, usize>,
     /// Semidefinite blocks and products that failed.
     failed: std::collections::BTreeMap<u64, usize>,
-    /// Drawn with a zero or a signalling NaN on which the original's larger or smaller is not the
-    /// rule's.
-    zeros: usize,
+    /// Points with −0 beside +0 in a larger or smaller, and those where the machine has another zero.
+    unlike_zeros: usize,
+    other_zeros: usize,
+    /// Drawn with a signalling NaN on which the original's larger or smaller is not the rule's.
     signalling: usize,
 }
 
@@ -107,51 +108,46 @@ fn quiet(xs: &mut [f64]) {
     }
 }
 
-/// −0 becomes +0.
-fn plus_zero(xs: &mut [f64]) {
-    for x in xs.iter_mut().filter(|x| **x == 0.0) {
-        *x = 0.0;
-    }
-}
-
-/// Asks with these numbers. Where a larger or smaller of the original's is not the rule's, that is
-/// counted, and the numbers are changed until there is none.
-fn asked<T>(records: &mut Records, x: &mut [f64], mut ask: impl FnMut(&[f64]) -> T) -> T {
+/// Asks with these numbers, watching. Where a larger or smaller had a signalling NaN, that is
+/// counted, and asked again with quiet ones.
+fn asked<T>(
+    records: &mut Records,
+    sweep_limit: usize,
+    x: &mut [f64],
+    mut ask: impl FnMut(&[f64]) -> T,
+) -> (T, Sight) {
     loop {
+        watch(sweep_limit);
         let answer = ask(x);
         let seen = sight();
         if seen.signalling > 0 {
             records.signalling += 1;
             quiet(x);
-        } else if seen.other_zeros > 0 {
-            records.zeros += 1;
-            plus_zero(x);
         } else {
-            return answer;
+            records.unlike_zeros += usize::from(seen.unlike_zeros > 0);
+            records.other_zeros += usize::from(seen.other_zeros > 0);
+            return (answer, seen);
         }
     }
 }
 
 /// The watched run, and the rotations it made. If no limit cut it off, a run over plain f64 ends
-/// as well, and must agree.
+/// as well, and must agree where the machine has the standard's zeros.
 fn projected(
     records: &mut Records,
     blocks: &[Block],
     setting: Setting,
     x: &mut [f64],
 ) -> (Outcome, u64) {
-    let answer = asked(records, x, |x| {
-        watch(setting.sweep_limit);
-        let outcome = project::<Seen>(blocks, setting, x);
-        (outcome, sight().rotations)
+    let (outcome, seen) = asked(records, setting.sweep_limit, x, |x| {
+        project::<Seen>(blocks, setting, x)
     });
-    let outcome = &answer.0;
-    if outcome.failed.is_none() {
+    if outcome.failed.is_none() && seen.other_zeros == 0 {
         let plain = project::<f64>(blocks, setting, x);
         assert_eq!(words(&plain.x), words(&outcome.x));
         assert_eq!(words(&plain.work), words(&outcome.work));
     }
-    answer
+    (outcome, seen.rotations)
 }
 
 // One block that needs no cone work.
@@ -546,7 +542,7 @@ fn grouped(blocks: &[Block], xs: &[f64]) -> Vec<f64> {
 fn grouping(records: &mut Records, random: &mut Random, sort: Sort) {
     let blocks = blocks(random, 12);
     let mut xs = numbers(random, sort, places(&blocks));
-    let answer = asked(records, &mut xs, |xs| grouped(&blocks, xs));
+    let (answer, _) = asked(records, MOST_SWEEPS, &mut xs, |xs| grouped(&blocks, xs));
     records.push(
         GROUPING,
         &[
@@ -614,11 +610,11 @@ pub fn make(seed: u64, path: &Path) -> std::io::Result<()> {
             None => println!(),
         }
     }
-    println!("left out of cones:");
     println!(
-        "  {:6} points with -0 beside +0 in a larger or smaller: a listed difference",
-        all.zeros
+        "{} points with -0 beside +0 in a larger or smaller, a listed difference; this machine has another zero in {}",
+        all.unlike_zeros, all.other_zeros
     );
+    println!("left out of cones:");
     println!(
         "  {:6} points with a signalling NaN in a larger or smaller",
         all.signalling

@@ -7,7 +7,8 @@ use totsu_core::MatType;
 use crate::draw::{factor, number, numbers, Sort, SORTS, SPECIAL};
 use crate::original as ask;
 use crate::random::Random;
-use crate::words::{signalling, words, write_list};
+use crate::standard::{maximum_number, minimum_number, unlike_zeros};
+use crate::words::{signalling, word, words, write_list};
 
 const NORM: u64 = 1;
 const COPY: u64 = 2;
@@ -93,7 +94,10 @@ struct Records {
     counts: std::collections::BTreeMap<u64, usize>,
     stopped_packed: usize,
     stopped_rows: usize,
+    /// Pairs of −0 and +0, and those whose larger or smaller the machine has otherwise.
     zero_pairs: usize,
+    other_larger: usize,
+    other_smaller: usize,
     signalling_pairs: usize,
 }
 
@@ -270,12 +274,18 @@ fn zero_factors(records: &mut Records) {
 fn pair(records: &mut Records, a: f64, b: f64) {
     if signalling(a) || signalling(b) {
         records.signalling_pairs += 1;
-    } else if a == 0.0 && b == 0.0 && a.to_bits() != b.to_bits() {
-        records.zero_pairs += 1;
-    } else {
-        records.push(LARGER, &[], &[&[a, b]], &[ask::larger(a, b)]);
-        records.push(SMALLER, &[], &[&[a, b]], &[ask::smaller(a, b)]);
+        return;
     }
+    let (mut larger, mut smaller) = (ask::larger(a, b), ask::smaller(a, b));
+    if unlike_zeros(a, b) {
+        let ruled = (maximum_number(a, b), minimum_number(a, b));
+        records.zero_pairs += 1;
+        records.other_larger += usize::from(word(larger) != word(ruled.0));
+        records.other_smaller += usize::from(word(smaller) != word(ruled.1));
+        (larger, smaller) = ruled;
+    }
+    records.push(LARGER, &[], &[&[a, b]], &[larger]);
+    records.push(SMALLER, &[], &[&[a, b]], &[smaller]);
 }
 
 fn helpers(records: &mut Records, random: &mut Random) {
@@ -357,6 +367,10 @@ pub fn make(seed: u64, path: &Path) -> std::io::Result<()> {
     for (code, name) in NAMES {
         println!("  {:6} {code:2} {name}", all.counts[&code]);
     }
+    println!(
+        "{} pairs of -0 and +0, a listed difference; this machine has another larger of {}, another smaller of {}",
+        all.zero_pairs, all.other_larger, all.other_smaller
+    );
     println!("left out of kernels:");
     println!(
         "  {:6} sums of an empty packed matrix: the original stops",
@@ -365,10 +379,6 @@ pub fn make(seed: u64, path: &Path) -> std::io::Result<()> {
     println!(
         "  {:6} row sums, no columns, two or more rows: the original stops",
         all.stopped_rows
-    );
-    println!(
-        "  {:6} pairs of -0 and +0: a listed difference",
-        all.zero_pairs
     );
     println!(
         "  {:6} pairs with a signalling NaN: the original's answer is not the rule's",

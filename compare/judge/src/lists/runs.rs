@@ -41,10 +41,7 @@ const NAMES: [(u64, &str); 12] = [
 const DIFFERENCES: [(u64, &str); 5] = [
     (EPS_ZERO, "eps_zero of -0"),
     (SWEEP_LIMIT, "a sweep limit reached"),
-    (
-        ZEROS,
-        "a larger or smaller of -0 and +0 other than the second",
-    ),
+    (ZEROS, "a larger or smaller of -0 and +0"),
     (STOPS, "an empty matrix on which the original stops"),
     (BELOW_ZERO, "refused for a tolerance below zero alone"),
 ];
@@ -58,8 +55,6 @@ struct Records {
     rotations: u64,
     /// Steps times m·n.
     products: u64,
-    /// Runs that met −0 beside +0 in a larger or smaller, whichever it came out.
-    unlike_zeros: usize,
     most_words: usize,
     /// Each problem with a finite eps_acc or eps_inf below zero, with −0 for it.
     raised: Vec<Handed>,
@@ -90,9 +85,9 @@ fn carried(ending: &Ending) -> [u64; 3] {
     all
 }
 
-/// The watched run must have changed nothing. A run that a sweep limit cut off has no like.
+/// The watched run must have changed nothing.
 pub fn same_over_plain(p: &Problem, answer: &Answer) {
-    if matches!(answer.ending, Ending::ConeFailure(_)) {
+    if !answer.has_plain_form() {
         return;
     }
     let plain = p.run::<f64>();
@@ -172,7 +167,7 @@ impl Records {
         }
         let answer = problem.solve();
         same_over_plain(&problem, &answer);
-        if answer.other_zeros > 0 {
+        if answer.unlike_zeros > 0 {
             tag += ZEROS;
         }
         let number = ending_number(&answer.ending);
@@ -185,7 +180,6 @@ impl Records {
             told.extend(words(&answer.work));
             told.extend(words(&answer.cone_work));
         }
-        self.unlike_zeros += usize::from(answer.unlike_zeros > 0);
         self.steps += answer.k;
         self.rotations += answer.q;
         self.products += answer.k * (p.m * p.n) as u64;
@@ -355,10 +349,6 @@ pub fn make(seed: u64, path: &Path) -> std::io::Result<()> {
         let count = all.differences.get(&number).unwrap_or(&0);
         println!("  {count:6} {name}");
     }
-    println!(
-        "{} runs met -0 beside +0 in a larger or smaller",
-        all.unlike_zeros
-    );
     println!(
         "{} steps, {} rotations, {} steps times m·n; at most {} words to a record",
         all.steps, all.rotations, all.products, all.most_words

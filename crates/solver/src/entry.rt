@@ -2,15 +2,17 @@
 use crate::solving;
 use rules::Answer;
 use rules::Cols;
+use rules::Ending;
 use rules::LIMIT;
 use rules::Refusal;
 use rules::Rows;
 use rules::Shape;
 use rules::SolverParam;
 use rules::Storage;
+ghost use mathlib.Core.Path.{_≡_};
 ghost use Rattle.rules.specs.Refusals.{SolveOutcome};
-ghost use Rattle.rules.specs.Problem.{problemOf, problemIn};
-ghost use Rattle.solver.specs.Solve.{Taken, LeftAs};
+ghost use Rattle.rules.specs.Problem.{slices, problemOf, problemIn};
+ghost use Rattle.solver.specs.Solve.{turnedAwayBy, Taken, LeftAs};
 
 // The longest x and the longest y.
 const LONG_X: usize = 3 * LIMIT + 1;
@@ -50,22 +52,20 @@ pub fn solve(
         cone_work.len(),
     );
     match found {
-        Refusal::Refused(e) => Answer {
-            ending: e,
-            steps: 0,
-            rotations: 0,
-        },
+        Refusal::Refused(e) => turned_away(e),
         Refusal::Accepted => {
             let shape = Shape {
                 rows,
                 cols,
                 storage,
+                first: cols,
             };
             accepted(
                 checks::read_eps(par),
                 shape,
                 c,
                 a,
+                &a[..0],
                 b,
                 words,
                 work,
@@ -75,20 +75,33 @@ pub fn solve(
     }
 }
 
+// The answer to a problem that is turned away: no step was taken.
+fn turned_away(e: Ending) -> Answer
+    ensures { λ r. ⌜ r ≡ turnedAwayBy e ⌝ }
+{
+    Answer {
+        ending: e,
+        steps: 0,
+        rotations: 0,
+    }
+}
+
 // The six vectors are held apart, since two parts of one lent slice can't be lent at once.
-fn accepted(
+fn accepted<'a>(
     par: SolverParam,
     shape: Shape,
     c: &[f64],
-    a: &[f64],
+    a1: &'a [f64],
+    a2: &'a [f64],
     b: &[f64],
     words: &[u16],
     work: &mut [f64],
     cone_work: &mut [f64],
 ) -> Answer
-    requires { ⌜ Taken (problemIn shape (now c) (now a) (now b) (now words) par) (now work) (now «cone_work») ⌝ }
+    requires { ⌜ Taken shape (now c) (slices (now a1) (now a2)) (now b) (now words) par (now work) (now «cone_work») ⌝ }
     ensures { λ r. ⌜
-        LeftAs (problemIn shape (now (c .entry)) (now (a .entry)) (now (b .entry)) (now (words .entry)) par)
+        LeftAs (problemIn shape (now (c .entry)) (slices (now (a1 .entry)) (now (a2 .entry)))
+        (now (b .entry)) (now (words .entry)) par)
         (now (work .entry)) (now («cone_work» .entry)) r (now (work .exit)) (now («cone_work» .exit))
         ⌝ }
 {
@@ -107,7 +120,8 @@ fn accepted(
         par,
         shape,
         c,
-        a,
+        a1,
+        a2,
         b,
         words,
         &mut x[0..nx],

@@ -1,4 +1,4 @@
-// The solver: an entry point that checks for itself.
+// The solver: its entry point, which checks for itself.
 mod entry;
 mod solving;
 

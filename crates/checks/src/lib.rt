@@ -16,6 +16,7 @@ ghost use mathlib.Core.Path.{_≡_};
 ghost use Rattle.rules.specs.Limits.{limit};
 ghost use Rattle.rules.specs.Refusals.{isFinite, allFinite, badEps, badParam, largeSizes, someNotFinite, shortBuffers, refusal};
 ghost use Rattle.rules.specs.Problem.{problemOf, slices, joined, asRead};
+ghost use Rattle.rules.specs.Split.{splitOf, splitRefusal};
 ghost use Rattle.checks.specs.Parts.{partsRefusal};
 
 // The first test that applies.
@@ -48,7 +49,38 @@ pub fn check(
     check_parts(par, shape, c, a, &a[..0], b, words, work, cone_work)
 }
 
-// The same, of an A in two slices, as the shape says.
+// The first test that applies to a problem whose dense A stands in two slices.
+pub fn check_split(
+    par: SolverParam,
+    rows: Rows,
+    cols: Cols,
+    first: Cols,
+    c: &[f64],
+    factory: &[f64],
+    lesson: &[f64],
+    b: &[f64],
+    words: &[u16],
+    work: usize,
+    cone_work: usize,
+) -> Refusal
+    ensures { λ r. ⌜
+        r
+        ≡ splitRefusal
+        (splitOf (rows .0) (cols .0) (first .0) (now (c .entry)) (now (factory .entry)) (now (lesson .entry))
+        (now (b .entry)) (now (words .entry)) par)
+        work «cone_work»
+        ⌝ }
+{
+    let shape = Shape {
+        rows,
+        cols,
+        storage: Storage::Dense,
+        first,
+    };
+    check_parts(par, shape, c, factory, lesson, b, words, work, cone_work)
+}
+
+// What both share: A stands in two slices, as the shape says.
 fn check_parts(
     par: SolverParam,
     shape: Shape,

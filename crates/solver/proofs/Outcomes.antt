@@ -27,6 +27,8 @@ use Rattle.rules.specs.Run.{leftBy}
 use Rattle.rules.specs.declared.Refusal.{Refusal}
 use Rattle.rules.specs.declared.Refusal.the-variants.{Accepted, Refused}
 use Rattle.rules.specs.Refusals.{refusal, isPacked, readProblem, turnedAway, solved, SolveOutcome}
+use Rattle.rules.specs.Split.{SplitProblem, splitOf, slicesFit, joinedProblem, splitRefusal, splitSolved, SplitOutcome}
+use Rattle.rules.proofs.SplitRuns.{same-refusal, split-runs-as-joined, slices-fit-if-accepted}
 use Rattle.rules.proofs.Accepted.{AllFits, accepted-fits}
 use Rattle.rules.proofs.OldContents.{solved-accepted}
 use Rattle.rules.proofs.Parts.{put, from-start}
@@ -99,6 +101,44 @@ module _ (m n : ℕ) (storage : Storage) (c a b : List Float) (words : List ℕ)
       let k = rw (append-nil a, e) at l in
       let same = read-is m n storage c a b words par in
       record { answered = rw (s, same) (k .answered); work-left = rw (s, same) (k .work-left); cone-left = rw (s, same) (k .cone-left) }
+
+-- ---- dense A in two slices
+
+split-refused : (p : SplitProblem) (work cone : List Float) (e : Ending) → splitRefusal p (length work) (length cone) ≡ Refused e → splitSolved p work cone ≡ turnedAway e work cone
+unfolding splitSolved
+split-refused p work cone e h = rw h
+
+pub split-turned-away : (p : SplitProblem) (work cone : List Float) (e : Ending) (r : Refusal) → r ≡ splitRefusal p (length work) (length cone) → r ≡ Refused e → (answer : Answer) → answer ≡ turnedAwayBy e → SplitOutcome p work cone answer work cone
+split-turned-away p work cone e r h is answer told =
+    let s = split-refused p work cone e (sym (rw is at h)) in
+    record { answered = rw s told; work-left = rw s; cone-left = rw s }
+
+module _ (m n n1 : ℕ) (c factory lesson b : List Float) (words : List ℕ) (par : SolverParam) (work cone : List Float) where
+  abbrev split-shape : Shape
+  split-shape = record { rows = record { 0 = m }; cols = record { 0 = n }; storage = Dense; first = record { 0 = n1 } }
+
+  abbrev p : SplitProblem
+  p = splitOf m n n1 c factory lesson b words par
+
+  module _ (r : Refusal) (h : r ≡ splitRefusal p (length work) (length cone)) (is : r ≡ Accepted) where
+    fitting : slicesFit p ≡ true
+    fitting = slices-fit-if-accepted p work cone (sym (rw is at h))
+
+    accepted-joined : refusal (joinedProblem p) (length work) (length cone) ≡ Accepted
+    accepted-joined = sym (same-refusal p (length work) (length cone) fitting) ∙ sym (rw is at h)
+
+    pub split-taken : (read : SolverParam) → read ≡ asRead par → Taken split-shape c (slices factory lesson) b words read work cone
+    split-taken read e =
+        let f = accepted-fits (joinedProblem p) (length work) (length cone) accepted-joined in
+        let parts : partsFit split-shape (slices factory lesson) ≡ true = rw (le-leb m limit (f .m-within), le-leb n limit (f .n-within)) fitting in
+        taken-as-read split-shape c (slices factory lesson) b words par work cone f parts read e
+
+    pub split-went-through : (read : SolverParam) → read ≡ asRead par → (answer : Answer) (work' cone' : List Float) → LeftAs (problemIn split-shape c (slices factory lesson) b words read) work cone answer work' cone' → SplitOutcome p work cone answer work' cone'
+    split-went-through read e answer work' cone' l =
+        let s = split-runs-as-joined p work cone fitting ∙ solved-accepted (joinedProblem p) work cone accepted-joined in
+        let k = rw e at l in
+        let same = read-is m n Dense c (factory ++ lesson) b words par in
+        record { answered = rw (s, same) (k .answered); work-left = rw (s, same) (k .work-left); cone-left = rw (s, same) (k .cone-left) }
 
 -- ---- an accepted run with vectors of its own
 

@@ -1,4 +1,4 @@
-// The entry point, which checks for itself, and an accepted run with vectors of its own.
+// The entry points, which check for themselves, and an accepted run with vectors of its own.
 use crate::solving;
 use rules::Answer;
 use rules::Cols;
@@ -12,6 +12,7 @@ use rules::Storage;
 ghost use mathlib.Core.Path.{_≡_};
 ghost use Rattle.rules.specs.Refusals.{SolveOutcome};
 ghost use Rattle.rules.specs.Problem.{slices, problemOf, problemIn};
+ghost use Rattle.rules.specs.Split.{splitOf, SplitOutcome};
 ghost use Rattle.solver.specs.Solve.{turnedAwayBy, Taken, LeftAs};
 
 // The longest x and the longest y.
@@ -66,6 +67,64 @@ pub fn solve(
                 c,
                 a,
                 &a[..0],
+                b,
+                words,
+                work,
+                cone_work,
+            )
+        }
+    }
+}
+
+// Runs a problem whose dense A stands in two slices, the first columns in one and the rest in the other, or turns it away.
+pub fn solve_split<'a>(
+    par: SolverParam,
+    rows: Rows,
+    cols: Cols,
+    first: Cols,
+    c: &[f64],
+    factory: &'a [f64],
+    lesson: &'a [f64],
+    b: &[f64],
+    words: &[u16],
+    work: &mut [f64],
+    cone_work: &mut [f64],
+) -> Answer
+    ensures { λ r. ⌜
+        SplitOutcome
+        (splitOf (rows .0) (cols .0) (first .0) (now (c .entry)) (now (factory .entry)) (now (lesson .entry))
+        (now (b .entry)) (now (words .entry)) par)
+        (now (work .entry)) (now («cone_work» .entry)) r (now (work .exit)) (now («cone_work» .exit))
+        ⌝ }
+{
+    let found = checks::check_split(
+        par,
+        rows,
+        cols,
+        first,
+        c,
+        factory,
+        lesson,
+        b,
+        words,
+        work.len(),
+        cone_work.len(),
+    );
+    match found {
+        Refusal::Refused(e) => turned_away(e),
+        Refusal::Accepted => {
+            let shape = Shape {
+                rows,
+                cols,
+                storage: Storage::Dense,
+                first,
+            };
+            accepted(
+                checks::read_eps(par),
+                shape,
+                c,
+                factory,
+                lesson,
                 b,
                 words,
                 work,

@@ -1,5 +1,6 @@
-// The solver: its entry point, which checks for itself.
+// The solver: two entry points, which check for themselves.
 mod entry;
 mod solving;
 
 pub use entry::solve;
+pub use entry::solve_split;

@@ -10,6 +10,7 @@ use Rattle.rules.specs.declared.SolverParam.{SolverParam}
 use Rattle.rules.specs.declared.Storage.{Storage}
 use Rattle.rules.specs.Problem.{problemOf, asRead}
 use Rattle.rules.specs.Refusals.{refusal}
+use Rattle.rules.specs.Split.{SplitProblem, splitRefusal}
 use Rattle.rules.proofs.Outcome.{results-coincide}
 
 pub any-two-checks-coincide : (par : SolverParam) (rows : Rows) (cols : Cols) (storage : Storage) (c a b : List Float) (words : List ℕ) (work cone : ℕ) (r r' : Refusal)
@@ -17,6 +18,9 @@ pub any-two-checks-coincide : (par : SolverParam) (rows : Rows) (cols : Cols) (s
     → r' ≡ refusal (problemOf (rows .0) (cols .0) storage c a b words par) work cone
     → r ≡ r'
 any-two-checks-coincide par rows cols storage c a b words work cone r r' p q = results-coincide p q
+
+pub any-two-split-checks-coincide : (p : SplitProblem) (work cone : ℕ) (r r' : Refusal) → r ≡ splitRefusal p work cone → r' ≡ splitRefusal p work cone → r ≡ r'
+any-two-split-checks-coincide p work cone r r' e f = results-coincide e f
 
 pub any-two-readings-coincide : (par r r' : SolverParam) → r ≡ asRead par → r' ≡ asRead par → r ≡ r'
 any-two-readings-coincide par r r' p q = results-coincide p q

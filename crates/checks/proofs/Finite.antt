@@ -1,9 +1,9 @@
--- Laws of what is finite, and of either of two tests.
+-- Laws of what is finite.
 use Prim.Native.Nat.{ℕ, _+_, _<_, _≤_}
 use native.Mathlib.Numerals.{add-one}
-use mathlib.Core.Path.{_≡_, refl}
-use mathlib.Core.Bool.{Bool, true, false, not, cond, _&&_, _||_}
-use mathlib.Core.List.{List}
+use mathlib.Core.Path.{_≡_, refl, sym}
+use mathlib.Core.Bool.{Bool, true, false, not, cond, _&&_}
+use mathlib.Core.List.{List, [], _∷_, _++_}
 use lib.Dec.{leb, ltb}
 use lib.Ieee.{Float, nan, inf, fin, lt}
 use lib.ListN.{length, drop, drop-of-length-le}
@@ -35,13 +35,15 @@ pub finite-end : (v : List Float) (i : ℕ) → length v ≤ i → allFinite (dr
 unfolding allFinite
 finite-end v i h = rw (drop-of-length-le v h)
 
-pub or-true : (t : Bool) → t || true ≡ true
-or-true true = refl
-or-true false = refl
-
-pub or-false : (t : Bool) → t || false ≡ t
-or-false true = refl
-or-false false = refl
+-- the numbers of two slices
+pub finite-joined : (v w : List Float) → allFinite (v ++ w) ≡ allFinite v && allFinite w
+unfolding allFinite
+finite-joined [] w = refl
+finite-joined (x ∷ v) w = rw (finite-joined v w) (sym (and-assoc (isFinite x) (allFinite v) (allFinite w)))
+  where
+    and-assoc : (a b c : Bool) → (a && b) && c ≡ a && (b && c)
+    and-assoc true b c = refl
+    and-assoc false b c = refl
 
 -- above is not at most
 pub above : (a b : ℕ) → ltb b a ≡ not (leb a b)

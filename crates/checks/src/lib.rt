@@ -7,13 +7,17 @@ use rules::MOST_SWEEPS;
 use rules::MOST_WORDS;
 use rules::Refusal;
 use rules::Rows;
+use rules::Shape;
 use rules::SolverParam;
 use rules::Storage;
+use shape::operators_fit;
 ghost use Prim.Native.Nat.{_≤_};
 ghost use mathlib.Core.Path.{_≡_};
 ghost use Rattle.rules.specs.Limits.{limit};
-ghost use Rattle.rules.specs.Refusals.{isFinite, allFinite, badEps, badParam, largeSizes, wrongLengths, someNotFinite, shortBuffers, refusal};
-ghost use Rattle.rules.specs.Problem.{problemOf, asRead};
+ghost use Rattle.rules.specs.Refusals.{isFinite, allFinite, badEps, badParam, largeSizes, someNotFinite, shortBuffers, refusal};
+ghost use Rattle.rules.specs.Problem.{problemOf, slices, joined, asRead};
+ghost use Rattle.rules.specs.Split.{splitOf, splitRefusal};
+ghost use Rattle.checks.specs.Parts.{partsRefusal};
 
 // The first test that applies.
 pub fn check(
@@ -36,8 +40,66 @@ pub fn check(
         work «cone_work»
         ⌝ }
 {
-    let m = rows.0;
-    let n = cols.0;
+    let shape = Shape {
+        rows,
+        cols,
+        storage,
+        first: cols,
+    };
+    check_parts(par, shape, c, a, &a[..0], b, words, work, cone_work)
+}
+
+// The first test that applies to a problem whose dense A stands in two slices.
+pub fn check_split(
+    par: SolverParam,
+    rows: Rows,
+    cols: Cols,
+    first: Cols,
+    c: &[f64],
+    factory: &[f64],
+    lesson: &[f64],
+    b: &[f64],
+    words: &[u16],
+    work: usize,
+    cone_work: usize,
+) -> Refusal
+    ensures { λ r. ⌜
+        r
+        ≡ splitRefusal
+        (splitOf (rows .0) (cols .0) (first .0) (now (c .entry)) (now (factory .entry)) (now (lesson .entry))
+        (now (b .entry)) (now (words .entry)) par)
+        work «cone_work»
+        ⌝ }
+{
+    let shape = Shape {
+        rows,
+        cols,
+        storage: Storage::Dense,
+        first,
+    };
+    check_parts(par, shape, c, factory, lesson, b, words, work, cone_work)
+}
+
+// What both share: A stands in two slices, as the shape says.
+fn check_parts(
+    par: SolverParam,
+    shape: Shape,
+    c: &[f64],
+    a1: &[f64],
+    a2: &[f64],
+    b: &[f64],
+    words: &[u16],
+    work: usize,
+    cone_work: usize,
+) -> Refusal
+    ensures { λ r. ⌜
+        r
+        ≡ partsRefusal par shape (now (c .entry)) (slices (now (a1 .entry)) (now (a2 .entry))) (now (b .entry))
+        (now (words .entry)) work «cone_work»
+        ⌝ }
+{
+    let m = shape.rows.0;
+    let n = shape.cols.0;
     let param_is_bad = bad_param(par);
     let size_is_too_large = too_large(m, n, words);
     if param_is_bad {
@@ -46,11 +108,11 @@ pub fn check(
     if size_is_too_large {
         return Refusal::Refused(Ending::TooLarge);
     }
-    if invalid_op(m, n, storage, c, a, b) {
+    if !operators_fit(shape, c, a1, a2, b) {
         return Refusal::Refused(Ending::InvalidOp);
     }
     let cone_is_bad = words::is_bad_cone(words, m);
-    let number_is_not_finite = not_finite(c, a, b);
+    let number_is_not_finite = not_finite(c, a1, a2, b);
     if cone_is_bad {
         return Refusal::Refused(Ending::BadCone);
     }
@@ -116,34 +178,20 @@ fn too_large(m: usize, n: usize, words: &[u16]) -> bool
     words.len() > MOST_WORDS
 }
 
-fn invalid_op(m: usize, n: usize, storage: Storage, c: &[f64], a: &[f64], b: &[f64]) -> bool
-    requires { ⌜ (m ≤ limit) × (n ≤ limit) ⌝ }
-    ensures { λ r. ⌜ r ≡ wrongLengths m n storage (now (c .entry)) (now (a .entry)) (now (b .entry)) ⌝ }
-{
-    if c.len() != n {
-        return true;
-    }
-    if b.len() != m {
-        return true;
-    }
-    match storage {
-        Storage::Dense => a.len() != m * n,
-        Storage::Packed => {
-            if m != n {
-                return true;
-            }
-            a.len() != m * (m + 1) / 2
-        }
-    }
-}
-
-fn not_finite(c: &[f64], a: &[f64], b: &[f64]) -> bool
-    ensures { λ r. ⌜ r ≡ someNotFinite (now (c .entry)) (now (a .entry)) (now (b .entry)) ⌝ }
+fn not_finite(c: &[f64], a1: &[f64], a2: &[f64], b: &[f64]) -> bool
+    ensures { λ r. ⌜
+        r
+        ≡ someNotFinite (now (c .entry)) (joined (slices (now (a1 .entry)) (now (a2 .entry))))
+        (now (b .entry))
+        ⌝ }
 {
     if !all_finite(c) {
         return true;
     }
-    if !all_finite(a) {
+    if !all_finite(a1) {
+        return true;
+    }
+    if !all_finite(a2) {
         return true;
     }
     !all_finite(b)

@@ -6,7 +6,7 @@ use Rattle.rules.specs.declared.Shape.{Shape}
 use Rattle.rules.specs.Helpers.{one}
 use Rattle.rules.specs.Arithmetic.{+0}
 use Rattle.rules.specs.Matrices.{opped, transOpped}
-use Rattle.rules.specs.Problem.{column, matrixIn}
+use Rattle.rules.specs.Problem.{Slices, joined, column, matrixIn}
 use Rattle.rules.specs.Step.{part}
 
 module _ (shape : Shape) where
@@ -20,19 +20,19 @@ module _ (shape : Shape) where
   abbrev ofS : List Float → List Float
   ofS x = part (shape .cols .0 + shape .rows .0) (shape .rows .0) x
 
-  abbrev pub primalAt : List Float → List Float → Float → List Float → List Float
+  abbrev pub primalAt : Slices → List Float → Float → List Float → List Float
   primalAt a b scale x =
-      opped (matrixIn shape) scale a (ofX x) one (opped (column (shape .rows .0)) (neg one) b (one ∷ []) scale (ofS x))
+      opped (matrixIn shape) scale (joined a) (ofX x) one (opped (column (shape .rows .0)) (neg one) b (one ∷ []) scale (ofS x))
 
-  abbrev pub dualAt : List Float → List Float → Float → List Float → List Float → List Float
+  abbrev pub dualAt : List Float → Slices → Float → List Float → List Float → List Float
   dualAt c a scale x d =
-      transOpped (matrixIn shape) scale a (ofY x) one (opped (column (shape .cols .0)) one c (one ∷ []) +0 d)
+      transOpped (matrixIn shape) scale (joined a) (ofY x) one (opped (column (shape .cols .0)) one c (one ∷ []) +0 d)
 
-  abbrev pub rayAt : List Float → List Float → List Float
-  rayAt a x = opped (matrixIn shape) one a (ofX x) one (ofS x)
+  abbrev pub rayAt : Slices → List Float → List Float
+  rayAt a x = opped (matrixIn shape) one (joined a) (ofX x) one (ofS x)
 
-  abbrev pub dualRayAt : List Float → List Float → List Float → List Float
-  dualRayAt a x d = transOpped (matrixIn shape) one a (ofY x) +0 d
+  abbrev pub dualRayAt : Slices → List Float → List Float → List Float
+  dualRayAt a x d = transOpped (matrixIn shape) one (joined a) (ofY x) +0 d
 
   abbrev pub productX : List Float → Float → Float → List Float → List Float
   productX c alpha start x = transOpped (column (shape .cols .0)) alpha c (ofX x) +0 (start ∷ [])

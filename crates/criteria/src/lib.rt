@@ -6,7 +6,6 @@ use rules::Shape;
 use rules::SolverParam;
 use shape::column;
 use shape::fits_x;
-use shape::matrix_of;
 use shape::operators_fit;
 ghost use mathlib.Core.Path.{_≡_};
 ghost use lib.ListN.{length};
@@ -15,7 +14,7 @@ ghost use Rattle.rules.specs.Criteria as rules;
 ghost use Rattle.rules.specs.Criteria.{converging, diverging, judged};
 ghost use Rattle.rules.specs.Helpers.{one, magnitude};
 ghost use Rattle.rules.specs.Matrices.{Stored};
-ghost use Rattle.rules.specs.Problem.{embedIn};
+ghost use Rattle.rules.specs.Problem.{slices, embedIn};
 ghost use Rattle.rules.specs.Problem as problem;
 ghost use Rattle.rules.specs.Vectors.{norm};
 ghost use Rattle.shape.specs.Fitting.{Fits, LikeX, Sized};
@@ -34,7 +33,8 @@ pub fn judge(
     par: SolverParam,
     shape: Shape,
     c: &[f64],
-    a: &[f64],
+    a1: &[f64],
+    a2: &[f64],
     b: &[f64],
     norms: Norms,
     x: &[f64],
@@ -42,16 +42,18 @@ pub fn judge(
 ) -> Judgement
     ensures { λ r. ⌜
         JudgeOutcome
-        (judgeFits shape (now (c .entry)) (now (a .entry)) (now (b .entry)) (now (x .entry)) (now (rx .entry)))
-        (judged (embedIn shape (now (c .entry)) (now (a .entry)) (now (b .entry))) (par .«eps_zero») norms
+        (judgeFits shape (now (c .entry)) (slices (now (a1 .entry)) (now (a2 .entry))) (now (b .entry))
+        (now (x .entry)) (now (rx .entry)))
+        (judged (embedIn shape (now (c .entry)) (slices (now (a1 .entry)) (now (a2 .entry)))
+        (now (b .entry))) (par .«eps_zero») norms
         (now (x .entry)) (now (rx .entry)))
         (now (rx .entry)) r (now (rx .exit))
         ⌝ }
 {
-    if !fits(shape, c, a, b, x, rx) {
+    if !fits(shape, c, a1, a2, b, x, rx) {
         return Judgement::No;
     }
-    let r = judge_by_tau(par, shape, c, a, b, norms, x, rx);
+    let r = judge_by_tau(par, shape, c, a1, a2, b, norms, x, rx);
     Judgement::Of(r)
 }
 
@@ -60,40 +62,46 @@ fn judge_by_tau(
     par: SolverParam,
     shape: Shape,
     c: &[f64],
-    a: &[f64],
+    a1: &[f64],
+    a2: &[f64],
     b: &[f64],
     norms: Norms,
     x: &[f64],
     rx: &mut [f64],
 ) -> Criteria
-    requires { ⌜ Fits shape (now c) (now a) (now b) ⌝ }
+    requires { ⌜ Fits shape (now c) (slices (now a1) (now a2)) (now b) ⌝ }
     requires { ⌜ LikeX shape (now x) ⌝ }
     requires { ⌜ LikeX shape (now rx) ⌝ }
     ensures says { λ r. ⌜
         r
-        ≡ judged (embedIn shape (now (c .entry)) (now (a .entry)) (now (b .entry))) (par .«eps_zero») norms
+        ≡ judged (embedIn shape (now (c .entry)) (slices (now (a1 .entry)) (now (a2 .entry)))
+        (now (b .entry))) (par .«eps_zero») norms
         (now (x .entry)) (now (rx .entry)) .criteria
         ⌝ }
     ensures rx_left { λ r. ⌜
         now (rx .exit)
-        ≡ judged (embedIn shape (now (c .entry)) (now (a .entry)) (now (b .entry))) (par .«eps_zero») norms
+        ≡ judged (embedIn shape (now (c .entry)) (slices (now (a1 .entry)) (now (a2 .entry)))
+        (now (b .entry))) (par .«eps_zero») norms
         (now (x .entry)) (now (rx .entry)) .rx
         ⌝ }
 {
     let m = shape.rows.0;
     let n = shape.cols.0;
     if x[n + m + m] > par.eps_zero {
-        criteria_conv(shape, c, a, b, norms, x, rx)
+        criteria_conv(shape, c, a1, a2, b, norms, x, rx)
     } else {
-        criteria_inf(par, shape, c, a, b, norms, x, rx)
+        criteria_inf(par, shape, c, a1, a2, b, norms, x, rx)
     }
 }
 
 // Whether c, A and b, x and rx have the lengths that the shape says.
-fn fits(shape: Shape, c: &[f64], a: &[f64], b: &[f64], x: &[f64], rx: &[f64]) -> bool
-    ensures { λ r. ⌜ r ≡ judgeFits shape (now (c .entry)) (now (a .entry)) (now (b .entry)) (now (x .entry)) (now (rx .entry)) ⌝ }
+fn fits(shape: Shape, c: &[f64], a1: &[f64], a2: &[f64], b: &[f64], x: &[f64], rx: &[f64]) -> bool
+    ensures { λ r. ⌜
+        r ≡ judgeFits shape (now (c .entry)) (slices (now (a1 .entry)) (now (a2 .entry))) (now (b .entry))
+        (now (x .entry)) (now (rx .entry))
+        ⌝ }
 {
-    if !operators_fit(shape, c, a, b) {
+    if !operators_fit(shape, c, a1, a2, b) {
         return false;
     }
     if !fits_x(shape, x) {
@@ -106,23 +114,26 @@ fn fits(shape: Shape, c: &[f64], a: &[f64], b: &[f64], x: &[f64], rx: &[f64]) ->
 fn criteria_conv(
     shape: Shape,
     c: &[f64],
-    a: &[f64],
+    a1: &[f64],
+    a2: &[f64],
     b: &[f64],
     norms: Norms,
     x: &[f64],
     rx: &mut [f64],
 ) -> Criteria
-    requires { ⌜ Fits shape (now c) (now a) (now b) ⌝ }
+    requires { ⌜ Fits shape (now c) (slices (now a1) (now a2)) (now b) ⌝ }
     requires { ⌜ LikeX shape (now x) ⌝ }
     requires { ⌜ LikeX shape (now rx) ⌝ }
     ensures says { λ r. ⌜
         r
-        ≡ converging (embedIn shape (now (c .entry)) (now (a .entry)) (now (b .entry))) norms (now (x .entry))
+        ≡ converging (embedIn shape (now (c .entry)) (slices (now (a1 .entry)) (now (a2 .entry)))
+        (now (b .entry))) norms (now (x .entry))
         (now (rx .entry)) .criteria
         ⌝ }
     ensures rx_left { λ r. ⌜
         now (rx .exit)
-        ≡ converging (embedIn shape (now (c .entry)) (now (a .entry)) (now (b .entry))) norms (now (x .entry))
+        ≡ converging (embedIn shape (now (c .entry)) (slices (now (a1 .entry)) (now (a2 .entry)))
+        (now (b .entry))) norms (now (x .entry))
         (now (rx .entry)) .rx
         ⌝ }
 {
@@ -130,8 +141,8 @@ fn criteria_conv(
     let n = shape.cols.0;
     let mn = m + n;
     let scale = float::reciprocal(x[n + m + m]);
-    let pri = primal_residual(shape, a, b, scale, x, &mut rx[0..m]);
-    let dual = dual_residual(shape, c, a, scale, x, &mut rx[m..mn]);
+    let pri = primal_residual(shape, a1, a2, b, scale, x, &mut rx[0..m]);
+    let dual = dual_residual(shape, c, a1, a2, scale, x, &mut rx[m..mn]);
     let g = objectives(shape, c, b, scale, 1.0, x);
     Criteria::Conv(
         pri / (1.0 + norms.b),
@@ -141,12 +152,23 @@ fn criteria_conv(
 }
 
 // p becomes s / tau - b + A * x / tau; its norm.
-fn primal_residual(shape: Shape, a: &[f64], b: &[f64], scale: f64, x: &[f64], p: &mut [f64]) -> f64
-    requires { ⌜ Sized shape (now a) ⌝ }
+fn primal_residual(
+    shape: Shape,
+    a1: &[f64],
+    a2: &[f64],
+    b: &[f64],
+    scale: f64,
+    x: &[f64],
+    p: &mut [f64],
+) -> f64
+    requires { ⌜ Sized shape (slices (now a1) (now a2)) ⌝ }
     requires { ⌜ Stored (problem.column (shape .rows .0)) (now b) ⌝ }
     requires { ⌜ LikeX shape (now x) ⌝ }
     requires { ⌜ length (now p) ≡ shape .rows .0 ⌝ }
-    ensures p_left { λ r. ⌜ now (p .exit) ≡ primalAt shape (now (a .entry)) (now (b .entry)) scale (now (x .entry)) ⌝ }
+    ensures p_left { λ r. ⌜
+        now (p .exit) ≡ primalAt shape (slices (now (a1 .entry)) (now (a2 .entry))) (now (b .entry)) scale
+        (now (x .entry))
+        ⌝ }
     ensures is_norm { λ r. ⌜ r ≡ norm (now (p .exit)) ⌝ }
 {
     let one = [1.0; 1];
@@ -154,29 +176,38 @@ fn primal_residual(shape: Shape, a: &[f64], b: &[f64], scale: f64, x: &[f64], p:
     let n = shape.cols.0;
     let nm = n + m;
     let nmm = nm + m;
-    let t = matrix_of(shape);
     linalg::copy(&x[nm..nmm], p);
     matop::op(column(m), -1.0, b, &one, scale, p);
-    matop::op(t, scale, a, &x[0..n], 1.0, p);
+    matop::split::op(shape, scale, a1, a2, &x[0..n], 1.0, p);
     sums::norm(p)
 }
 
 // d becomes c + A transposed * y / tau; its norm.
-fn dual_residual(shape: Shape, c: &[f64], a: &[f64], scale: f64, x: &[f64], d: &mut [f64]) -> f64
-    requires { ⌜ Sized shape (now a) ⌝ }
+fn dual_residual(
+    shape: Shape,
+    c: &[f64],
+    a1: &[f64],
+    a2: &[f64],
+    scale: f64,
+    x: &[f64],
+    d: &mut [f64],
+) -> f64
+    requires { ⌜ Sized shape (slices (now a1) (now a2)) ⌝ }
     requires { ⌜ Stored (problem.column (shape .cols .0)) (now c) ⌝ }
     requires { ⌜ LikeX shape (now x) ⌝ }
     requires { ⌜ length (now d) ≡ shape .cols .0 ⌝ }
-    ensures d_left { λ r. ⌜ now (d .exit) ≡ dualAt shape (now (c .entry)) (now (a .entry)) scale (now (x .entry)) (now (d .entry)) ⌝ }
+    ensures d_left { λ r. ⌜
+        now (d .exit) ≡ dualAt shape (now (c .entry)) (slices (now (a1 .entry)) (now (a2 .entry))) scale
+        (now (x .entry)) (now (d .entry))
+        ⌝ }
     ensures is_norm { λ r. ⌜ r ≡ norm (now (d .exit)) ⌝ }
 {
     let one = [1.0; 1];
     let m = shape.rows.0;
     let n = shape.cols.0;
     let nm = n + m;
-    let t = matrix_of(shape);
     matop::op(column(n), 1.0, c, &one, 0.0, d);
-    matop::trans_op(t, scale, a, &x[n..nm], 1.0, d);
+    matop::split::trans_op(shape, scale, a1, a2, &x[n..nm], 1.0, d);
     sums::norm(d)
 }
 
@@ -218,31 +249,34 @@ fn criteria_inf(
     par: SolverParam,
     shape: Shape,
     c: &[f64],
-    a: &[f64],
+    a1: &[f64],
+    a2: &[f64],
     b: &[f64],
     norms: Norms,
     x: &[f64],
     rx: &mut [f64],
 ) -> Criteria
-    requires { ⌜ Fits shape (now c) (now a) (now b) ⌝ }
+    requires { ⌜ Fits shape (now c) (slices (now a1) (now a2)) (now b) ⌝ }
     requires { ⌜ LikeX shape (now x) ⌝ }
     requires { ⌜ LikeX shape (now rx) ⌝ }
     ensures says { λ r. ⌜
         r
-        ≡ diverging (embedIn shape (now (c .entry)) (now (a .entry)) (now (b .entry))) (par .«eps_zero») norms
+        ≡ diverging (embedIn shape (now (c .entry)) (slices (now (a1 .entry)) (now (a2 .entry)))
+        (now (b .entry))) (par .«eps_zero») norms
         (now (x .entry)) (now (rx .entry)) .criteria
         ⌝ }
     ensures rx_left { λ r. ⌜
         now (rx .exit)
-        ≡ diverging (embedIn shape (now (c .entry)) (now (a .entry)) (now (b .entry))) (par .«eps_zero») norms
+        ≡ diverging (embedIn shape (now (c .entry)) (slices (now (a1 .entry)) (now (a2 .entry)))
+        (now (b .entry))) (par .«eps_zero») norms
         (now (x .entry)) (now (rx .entry)) .rx
         ⌝ }
 {
     let m = shape.rows.0;
     let n = shape.cols.0;
     let mn = m + n;
-    let pri = ray(shape, a, x, &mut rx[0..m]);
-    let dual = dual_ray(shape, a, x, &mut rx[m..mn]);
+    let pri = ray(shape, a1, a2, x, &mut rx[0..m]);
+    let dual = dual_ray(shape, a1, a2, x, &mut rx[m..mn]);
     let r = objectives(shape, c, b, -1.0, 0.0, x);
     Criteria::Inf(
         ratio(par.eps_zero, pri, norms.c, r.cx),
@@ -251,36 +285,37 @@ fn criteria_inf(
 }
 
 // p becomes s + A * x; its norm.
-fn ray(shape: Shape, a: &[f64], x: &[f64], p: &mut [f64]) -> f64
-    requires { ⌜ Sized shape (now a) ⌝ }
+fn ray(shape: Shape, a1: &[f64], a2: &[f64], x: &[f64], p: &mut [f64]) -> f64
+    requires { ⌜ Sized shape (slices (now a1) (now a2)) ⌝ }
     requires { ⌜ LikeX shape (now x) ⌝ }
     requires { ⌜ length (now p) ≡ shape .rows .0 ⌝ }
-    ensures p_left { λ r. ⌜ now (p .exit) ≡ rayAt shape (now (a .entry)) (now (x .entry)) ⌝ }
+    ensures p_left { λ r. ⌜ now (p .exit) ≡ rayAt shape (slices (now (a1 .entry)) (now (a2 .entry))) (now (x .entry)) ⌝ }
     ensures is_norm { λ r. ⌜ r ≡ norm (now (p .exit)) ⌝ }
 {
     let m = shape.rows.0;
     let n = shape.cols.0;
     let nm = n + m;
     let nmm = nm + m;
-    let t = matrix_of(shape);
     linalg::copy(&x[nm..nmm], p);
-    matop::op(t, 1.0, a, &x[0..n], 1.0, p);
+    matop::split::op(shape, 1.0, a1, a2, &x[0..n], 1.0, p);
     sums::norm(p)
 }
 
 // d becomes A transposed * y; its norm.
-fn dual_ray(shape: Shape, a: &[f64], x: &[f64], d: &mut [f64]) -> f64
-    requires { ⌜ Sized shape (now a) ⌝ }
+fn dual_ray(shape: Shape, a1: &[f64], a2: &[f64], x: &[f64], d: &mut [f64]) -> f64
+    requires { ⌜ Sized shape (slices (now a1) (now a2)) ⌝ }
     requires { ⌜ LikeX shape (now x) ⌝ }
     requires { ⌜ length (now d) ≡ shape .cols .0 ⌝ }
-    ensures d_left { λ r. ⌜ now (d .exit) ≡ dualRayAt shape (now (a .entry)) (now (x .entry)) (now (d .entry)) ⌝ }
+    ensures d_left { λ r. ⌜
+        now (d .exit) ≡ dualRayAt shape (slices (now (a1 .entry)) (now (a2 .entry))) (now (x .entry))
+        (now (d .entry))
+        ⌝ }
     ensures is_norm { λ r. ⌜ r ≡ norm (now (d .exit)) ⌝ }
 {
     let m = shape.rows.0;
     let n = shape.cols.0;
     let nm = n + m;
-    let t = matrix_of(shape);
-    matop::trans_op(t, 1.0, a, &x[n..nm], 0.0, d);
+    matop::split::trans_op(shape, 1.0, a1, a2, &x[n..nm], 0.0, d);
     sums::norm(d)
 }
 

@@ -3,11 +3,10 @@
 use rules::Shape;
 use shape::column;
 use shape::embed_fits;
-use shape::matrix_of;
 ghost use mathlib.Core.Path.{_≡_};
 ghost use lib.ListN.{length};
 ghost use Rattle.rules.specs.Outcome.{Outcome};
-ghost use Rattle.rules.specs.Problem.{embedIn};
+ghost use Rattle.rules.specs.Problem.{slices, embedIn};
 ghost use Rattle.rules.specs.Step.{opK, onN, onM, on1};
 ghost use Rattle.shape.specs.Fitting.{embedFits, Fits, LikeX, LikeY};
 
@@ -15,7 +14,8 @@ ghost use Rattle.shape.specs.Fitting.{embedFits, Fits, LikeX, LikeY};
 pub fn op(
     shape: Shape,
     c: &[f64],
-    a: &[f64],
+    a1: &[f64],
+    a2: &[f64],
     b: &[f64],
     alpha: f64,
     x: &[f64],
@@ -24,35 +24,39 @@ pub fn op(
 ) -> bool
     ensures { λ r. ⌜
         Outcome
-        (embedFits shape (now (c .entry)) (now (a .entry)) (now (b .entry)) (now (x .entry)) (now (y .entry)))
-        (opK (embedIn shape (now (c .entry)) (now (a .entry)) (now (b .entry))) alpha (now (x .entry)) beta
+        (embedFits shape (now (c .entry)) (slices (now (a1 .entry)) (now (a2 .entry))) (now (b .entry))
+        (now (x .entry)) (now (y .entry)))
+        (opK (embedIn shape (now (c .entry)) (slices (now (a1 .entry)) (now (a2 .entry))) (now (b .entry)))
+        alpha (now (x .entry)) beta
         (now (y .entry)))
         (now (y .entry)) r (now (y .exit))
         ⌝ }
 {
-    if !embed_fits(shape, c, a, b, x, y) {
+    if !embed_fits(shape, c, a1, a2, b, x, y) {
         return false;
     }
-    op_all(shape, c, a, b, alpha, x, beta, y);
+    op_all(shape, c, a1, a2, b, alpha, x, beta, y);
     true
 }
 
 fn op_all(
     shape: Shape,
     c: &[f64],
-    a: &[f64],
+    a1: &[f64],
+    a2: &[f64],
     b: &[f64],
     alpha: f64,
     x: &[f64],
     beta: f64,
     y: &mut [f64],
 )
-    requires { ⌜ Fits shape (now c) (now a) (now b) ⌝ }
+    requires { ⌜ Fits shape (now c) (slices (now a1) (now a2)) (now b) ⌝ }
     requires { ⌜ LikeX shape (now x) ⌝ }
     requires { ⌜ LikeY shape (now y) ⌝ }
     ensures { λ _. ⌜
         now (y .exit)
-        ≡ opK (embedIn shape (now (c .entry)) (now (a .entry)) (now (b .entry))) alpha (now (x .entry)) beta
+        ≡ opK (embedIn shape (now (c .entry)) (slices (now (a1 .entry)) (now (a2 .entry))) (now (b .entry)))
+        alpha (now (x .entry)) beta
         (now (y .entry))
         ⌝ }
 {
@@ -60,27 +64,29 @@ fn op_all(
     let n = shape.cols.0;
     let nm = n + m;
     let nm1 = nm + 1;
-    op_n(shape, c, a, b, alpha, x, beta, &mut y[0..n]);
-    op_m(shape, c, a, b, alpha, x, beta, &mut y[n..nm]);
-    op_1(shape, c, a, b, alpha, x, beta, &mut y[nm..nm1]);
+    op_n(shape, c, a1, a2, b, alpha, x, beta, &mut y[0..n]);
+    op_m(shape, c, a1, a2, b, alpha, x, beta, &mut y[n..nm]);
+    op_1(shape, c, a1, a2, b, alpha, x, beta, &mut y[nm..nm1]);
 }
 
 fn op_n(
     shape: Shape,
     c: &[f64],
-    a: &[f64],
+    a1: &[f64],
+    a2: &[f64],
     b: &[f64],
     alpha: f64,
     x: &[f64],
     beta: f64,
     y_n: &mut [f64],
 )
-    requires { ⌜ Fits shape (now c) (now a) (now b) ⌝ }
+    requires { ⌜ Fits shape (now c) (slices (now a1) (now a2)) (now b) ⌝ }
     requires { ⌜ LikeX shape (now x) ⌝ }
     requires { ⌜ length (now «y_n») ≡ shape .cols .0 ⌝ }
     ensures { λ _. ⌜
         now («y_n» .exit)
-        ≡ onN (embedIn shape (now (c .entry)) (now (a .entry)) (now (b .entry))) alpha (now (x .entry)) beta
+        ≡ onN (embedIn shape (now (c .entry)) (slices (now (a1 .entry)) (now (a2 .entry))) (now (b .entry)))
+        alpha (now (x .entry)) beta
         (now («y_n» .entry))
         ⌝ }
 {
@@ -89,27 +95,28 @@ fn op_n(
     let nm = n + m;
     let nmm = nm + m;
     let nmm1 = nmm + 1;
-    let t = matrix_of(shape);
-    matop::trans_op(t, alpha, a, &x[n..nm], beta, y_n);
+    matop::split::trans_op(shape, alpha, a1, a2, &x[n..nm], beta, y_n);
     matop::op(column(n), alpha, c, &x[nmm..nmm1], 1.0, y_n);
 }
 
 fn op_m(
     shape: Shape,
     c: &[f64],
-    a: &[f64],
+    a1: &[f64],
+    a2: &[f64],
     b: &[f64],
     alpha: f64,
     x: &[f64],
     beta: f64,
     y_m: &mut [f64],
 )
-    requires { ⌜ Fits shape (now c) (now a) (now b) ⌝ }
+    requires { ⌜ Fits shape (now c) (slices (now a1) (now a2)) (now b) ⌝ }
     requires { ⌜ LikeX shape (now x) ⌝ }
     requires { ⌜ length (now «y_m») ≡ shape .rows .0 ⌝ }
     ensures { λ _. ⌜
         now («y_m» .exit)
-        ≡ onM (embedIn shape (now (c .entry)) (now (a .entry)) (now (b .entry))) alpha (now (x .entry)) beta
+        ≡ onM (embedIn shape (now (c .entry)) (slices (now (a1 .entry)) (now (a2 .entry))) (now (b .entry)))
+        alpha (now (x .entry)) beta
         (now («y_m» .entry))
         ⌝ }
 {
@@ -118,8 +125,7 @@ fn op_m(
     let nm = n + m;
     let nmm = nm + m;
     let nmm1 = nmm + 1;
-    let t = matrix_of(shape);
-    matop::op(t, -alpha, a, &x[0..n], beta, y_m);
+    matop::split::op(shape, -alpha, a1, a2, &x[0..n], beta, y_m);
     linalg::add(-alpha, &x[nm..nmm], y_m);
     matop::op(column(m), alpha, b, &x[nmm..nmm1], 1.0, y_m);
 }
@@ -127,19 +133,21 @@ fn op_m(
 fn op_1(
     shape: Shape,
     c: &[f64],
-    a: &[f64],
+    a1: &[f64],
+    a2: &[f64],
     b: &[f64],
     alpha: f64,
     x: &[f64],
     beta: f64,
     y_1: &mut [f64],
 )
-    requires { ⌜ Fits shape (now c) (now a) (now b) ⌝ }
+    requires { ⌜ Fits shape (now c) (slices (now a1) (now a2)) (now b) ⌝ }
     requires { ⌜ LikeX shape (now x) ⌝ }
     requires { ⌜ length (now «y_1») ≡ 1 ⌝ }
     ensures { λ _. ⌜
         now («y_1» .exit)
-        ≡ on1 (embedIn shape (now (c .entry)) (now (a .entry)) (now (b .entry))) alpha (now (x .entry)) beta
+        ≡ on1 (embedIn shape (now (c .entry)) (slices (now (a1 .entry)) (now (a2 .entry))) (now (b .entry)))
+        alpha (now (x .entry)) beta
         (now («y_1» .entry))
         ⌝ }
 {

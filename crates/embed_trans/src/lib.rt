@@ -3,11 +3,10 @@
 use rules::Shape;
 use shape::column;
 use shape::embed_fits;
-use shape::matrix_of;
 ghost use mathlib.Core.Path.{_≡_};
 ghost use lib.ListN.{length};
 ghost use Rattle.rules.specs.Outcome.{Outcome};
-ghost use Rattle.rules.specs.Problem.{embedIn};
+ghost use Rattle.rules.specs.Problem.{slices, embedIn};
 ghost use Rattle.rules.specs.Step.{transOpK, backX, backY, backS, backTau};
 ghost use Rattle.shape.specs.Fitting.{embedFits, Fits, LikeX, LikeY};
 
@@ -15,7 +14,8 @@ ghost use Rattle.shape.specs.Fitting.{embedFits, Fits, LikeX, LikeY};
 pub fn trans_op(
     shape: Shape,
     c: &[f64],
-    a: &[f64],
+    a1: &[f64],
+    a2: &[f64],
     b: &[f64],
     alpha: f64,
     y: &[f64],
@@ -24,35 +24,39 @@ pub fn trans_op(
 ) -> bool
     ensures { λ r. ⌜
         Outcome
-        (embedFits shape (now (c .entry)) (now (a .entry)) (now (b .entry)) (now (x .entry)) (now (y .entry)))
-        (transOpK (embedIn shape (now (c .entry)) (now (a .entry)) (now (b .entry))) alpha (now (y .entry)) beta
+        (embedFits shape (now (c .entry)) (slices (now (a1 .entry)) (now (a2 .entry))) (now (b .entry))
+        (now (x .entry)) (now (y .entry)))
+        (transOpK (embedIn shape (now (c .entry)) (slices (now (a1 .entry)) (now (a2 .entry)))
+        (now (b .entry))) alpha (now (y .entry)) beta
         (now (x .entry)))
         (now (x .entry)) r (now (x .exit))
         ⌝ }
 {
-    if !embed_fits(shape, c, a, b, x, y) {
+    if !embed_fits(shape, c, a1, a2, b, x, y) {
         return false;
     }
-    trans_all(shape, c, a, b, alpha, y, beta, x);
+    trans_all(shape, c, a1, a2, b, alpha, y, beta, x);
     true
 }
 
 fn trans_all(
     shape: Shape,
     c: &[f64],
-    a: &[f64],
+    a1: &[f64],
+    a2: &[f64],
     b: &[f64],
     alpha: f64,
     y: &[f64],
     beta: f64,
     x: &mut [f64],
 )
-    requires { ⌜ Fits shape (now c) (now a) (now b) ⌝ }
+    requires { ⌜ Fits shape (now c) (slices (now a1) (now a2)) (now b) ⌝ }
     requires { ⌜ LikeY shape (now y) ⌝ }
     requires { ⌜ LikeX shape (now x) ⌝ }
     ensures { λ _. ⌜
         now (x .exit)
-        ≡ transOpK (embedIn shape (now (c .entry)) (now (a .entry)) (now (b .entry))) alpha (now (y .entry))
+        ≡ transOpK (embedIn shape (now (c .entry)) (slices (now (a1 .entry)) (now (a2 .entry)))
+        (now (b .entry))) alpha (now (y .entry))
         beta (now (x .entry))
         ⌝ }
 {
@@ -61,28 +65,30 @@ fn trans_all(
     let nm = n + m;
     let nmm = nm + m;
     let nmm1 = nmm + 1;
-    trans_x(shape, c, a, b, alpha, y, beta, &mut x[0..n]);
-    trans_y(shape, c, a, b, alpha, y, beta, &mut x[n..nm]);
-    trans_s(shape, c, a, b, alpha, y, beta, &mut x[nm..nmm]);
-    trans_tau(shape, c, a, b, alpha, y, beta, &mut x[nmm..nmm1]);
+    trans_x(shape, c, a1, a2, b, alpha, y, beta, &mut x[0..n]);
+    trans_y(shape, c, a1, a2, b, alpha, y, beta, &mut x[n..nm]);
+    trans_s(shape, c, a1, a2, b, alpha, y, beta, &mut x[nm..nmm]);
+    trans_tau(shape, c, a1, a2, b, alpha, y, beta, &mut x[nmm..nmm1]);
 }
 
 fn trans_x(
     shape: Shape,
     c: &[f64],
-    a: &[f64],
+    a1: &[f64],
+    a2: &[f64],
     b: &[f64],
     alpha: f64,
     y: &[f64],
     beta: f64,
     x_x: &mut [f64],
 )
-    requires { ⌜ Fits shape (now c) (now a) (now b) ⌝ }
+    requires { ⌜ Fits shape (now c) (slices (now a1) (now a2)) (now b) ⌝ }
     requires { ⌜ LikeY shape (now y) ⌝ }
     requires { ⌜ length (now «x_x») ≡ shape .cols .0 ⌝ }
     ensures { λ _. ⌜
         now («x_x» .exit)
-        ≡ backX (embedIn shape (now (c .entry)) (now (a .entry)) (now (b .entry))) alpha (now (y .entry)) beta
+        ≡ backX (embedIn shape (now (c .entry)) (slices (now (a1 .entry)) (now (a2 .entry)))
+        (now (b .entry))) alpha (now (y .entry)) beta
         (now («x_x» .entry))
         ⌝ }
 {
@@ -90,27 +96,28 @@ fn trans_x(
     let n = shape.cols.0;
     let nm = n + m;
     let nm1 = nm + 1;
-    let t = matrix_of(shape);
-    matop::trans_op(t, -alpha, a, &y[n..nm], beta, x_x);
+    matop::split::trans_op(shape, -alpha, a1, a2, &y[n..nm], beta, x_x);
     matop::op(column(n), -alpha, c, &y[nm..nm1], 1.0, x_x);
 }
 
 fn trans_y(
     shape: Shape,
     c: &[f64],
-    a: &[f64],
+    a1: &[f64],
+    a2: &[f64],
     b: &[f64],
     alpha: f64,
     y: &[f64],
     beta: f64,
     x_y: &mut [f64],
 )
-    requires { ⌜ Fits shape (now c) (now a) (now b) ⌝ }
+    requires { ⌜ Fits shape (now c) (slices (now a1) (now a2)) (now b) ⌝ }
     requires { ⌜ LikeY shape (now y) ⌝ }
     requires { ⌜ length (now «x_y») ≡ shape .rows .0 ⌝ }
     ensures { λ _. ⌜
         now («x_y» .exit)
-        ≡ backY (embedIn shape (now (c .entry)) (now (a .entry)) (now (b .entry))) alpha (now (y .entry)) beta
+        ≡ backY (embedIn shape (now (c .entry)) (slices (now (a1 .entry)) (now (a2 .entry)))
+        (now (b .entry))) alpha (now (y .entry)) beta
         (now («x_y» .entry))
         ⌝ }
 {
@@ -118,27 +125,28 @@ fn trans_y(
     let n = shape.cols.0;
     let nm = n + m;
     let nm1 = nm + 1;
-    let t = matrix_of(shape);
-    matop::op(t, alpha, a, &y[0..n], beta, x_y);
+    matop::split::op(shape, alpha, a1, a2, &y[0..n], beta, x_y);
     matop::op(column(m), -alpha, b, &y[nm..nm1], 1.0, x_y);
 }
 
 fn trans_s(
     shape: Shape,
     c: &[f64],
-    a: &[f64],
+    a1: &[f64],
+    a2: &[f64],
     b: &[f64],
     alpha: f64,
     y: &[f64],
     beta: f64,
     x_s: &mut [f64],
 )
-    requires { ⌜ Fits shape (now c) (now a) (now b) ⌝ }
+    requires { ⌜ Fits shape (now c) (slices (now a1) (now a2)) (now b) ⌝ }
     requires { ⌜ LikeY shape (now y) ⌝ }
     requires { ⌜ length (now «x_s») ≡ shape .rows .0 ⌝ }
     ensures { λ _. ⌜
         now («x_s» .exit)
-        ≡ backS (embedIn shape (now (c .entry)) (now (a .entry)) (now (b .entry))) alpha (now (y .entry)) beta
+        ≡ backS (embedIn shape (now (c .entry)) (slices (now (a1 .entry)) (now (a2 .entry)))
+        (now (b .entry))) alpha (now (y .entry)) beta
         (now («x_s» .entry))
         ⌝ }
 {
@@ -152,19 +160,21 @@ fn trans_s(
 fn trans_tau(
     shape: Shape,
     c: &[f64],
-    a: &[f64],
+    a1: &[f64],
+    a2: &[f64],
     b: &[f64],
     alpha: f64,
     y: &[f64],
     beta: f64,
     x_tau: &mut [f64],
 )
-    requires { ⌜ Fits shape (now c) (now a) (now b) ⌝ }
+    requires { ⌜ Fits shape (now c) (slices (now a1) (now a2)) (now b) ⌝ }
     requires { ⌜ LikeY shape (now y) ⌝ }
     requires { ⌜ length (now «x_tau») ≡ 1 ⌝ }
     ensures { λ _. ⌜
         now («x_tau» .exit)
-        ≡ backTau (embedIn shape (now (c .entry)) (now (a .entry)) (now (b .entry))) alpha (now (y .entry)) beta
+        ≡ backTau (embedIn shape (now (c .entry)) (slices (now (a1 .entry)) (now (a2 .entry)))
+        (now (b .entry))) alpha (now (y .entry)) beta
         (now («x_tau» .entry))
         ⌝ }
 {

@@ -14,7 +14,7 @@ use Rattle.rules.specs.declared.Shape.{Shape}
 use Rattle.rules.specs.declared.SolverParam.{SolverParam}
 use Rattle.rules.specs.declared.Verdict.{Verdict}
 use Rattle.rules.specs.declared.Verdict.the-variants.{GoesOn, Ends}
-use Rattle.rules.specs.Problem.{Problem, problemIn}
+use Rattle.rules.specs.Problem.{Slices, Problem, problemIn}
 use Rattle.rules.specs.Step.{State}
 use Rattle.rules.specs.Product.{Failure, none, block}
 use Rattle.rules.specs.Run.{wholeStep, verdict, stateFrom, Piece, endingOf, isConeFailure}
@@ -44,7 +44,7 @@ pub record Kept (from s : State) : Type 0 where
   pub tx-kept : length (s .tx) ≡ length (from .tx)
   pub cone-kept : length (s .cone) ≡ length (from .cone)
 
-module _ (par : SolverParam) (shape : Shape) (c a b : List Float) (words : List ℕ) where
+module _ (par : SolverParam) (shape : Shape) (c : List Float) (a : Slices) (b : List Float) (words : List ℕ) where
   same-fits : {from s : State} → Kept from s → stepFits par shape c a b words s ≡ stepFits par shape c a b words from
   same-fits k = rw (k .x-kept, k .y-kept, k .tau-kept, k .sigma-kept, k .rx-kept, k .tx-kept, k .cone-kept)
 
@@ -62,7 +62,7 @@ module _ (par : SolverParam) (shape : Shape) (c a b : List Float) (words : List 
         first = λ h. refl;
       }
 
-module _ {par : SolverParam} {shape : Shape} {c a b : List Float} {words : List ℕ} {ns : Norms} {behind given : ℕ} {from : State} {k q left : ℕ} {s : State} (g : Going par shape c a b words ns behind given from k q left s) where
+module _ {par : SolverParam} {shape : Shape} {c : List Float} {a : Slices} {b : List Float} {words : List ℕ} {ns : Norms} {behind given : ℕ} {from : State} {k q left : ℕ} {s : State} (g : Going par shape c a b words ns behind given from k q left s) where
   cones-now : stepFits par shape c a b words s ≡ true → ConesReady par (shape .rows .0) words (length (s .cone))
   cones-now h = fits-ready par shape c a b words s h .cones
 
@@ -94,7 +94,7 @@ module _ {par : SolverParam} {shape : Shape} {c a b : List Float} {words : List 
   going-nowhere f h = record { answered = rw (fits-then f); left = rw (fits-then f) (h ∙ g .first (fits-then f)) }
 
 -- what the loop learns of its next step
-module _ {par : SolverParam} {shape : Shape} {c a b : List Float} {words : List ℕ} {ns : Norms} {behind given : ℕ} {from : State} {k q left : ℕ} {s : State} {answer : StepAnswer} {to : State}
+module _ {par : SolverParam} {shape : Shape} {c : List Float} {a : Slices} {b : List Float} {words : List ℕ} {ns : Norms} {behind given : ℕ} {from : State} {k q left : ℕ} {s : State} {answer : StepAnswer} {to : State}
     (g : Going par shape c a b words ns behind given from k q left s) (o : WholeStepOutcome (stepFits par shape c a b words s) (problemIn shape c a b words par) ns (k + 1) s answer to) where
   pub step-counts : {said : Verdict} {made : ℕ} → answer ≡ Said said made → made ≤ perStep
   step-counts is = let w = said-by o is in running-counts (g .running) (w .1) (cones-now g (w .0))
@@ -151,7 +151,7 @@ module _ (p : Problem) (ns : Norms) (behind : ℕ) (s : State) where
       let there = r .ends e is in
       state-after (r .made) (pieceOf p ns behind given s) e (there .0) (r .steps-are) (r .state-there) (there .1) h
 
-pub ran-where-fits : {par : SolverParam} {shape : Shape} {c a b : List Float} {words : List ℕ} {ns : Norms} {behind given : ℕ} {s : State} {answer : Iterated} {s' : State} → IterateOutcome (stepFits par shape c a b words s) (problemIn shape c a b words par) ns behind given s answer s' → StepReady par shape c a b words s
+pub ran-where-fits : {par : SolverParam} {shape : Shape} {c : List Float} {a : Slices} {b : List Float} {words : List ℕ} {ns : Norms} {behind given : ℕ} {s : State} {answer : Iterated} {s' : State} → IterateOutcome (stepFits par shape c a b words s) (problemIn shape c a b words par) ns behind given s answer s' → StepReady par shape c a b words s
     → RanBy (pieceOf (problemIn shape c a b words par) ns behind given s) answer s'
 ran-where-fits {par} {shape} {c} {a} {b} {words} {ns} {behind} {given} {s} o r =
     let p = problemIn shape c a b words par in

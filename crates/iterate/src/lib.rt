@@ -5,7 +5,7 @@ use rules::SolverParam;
 use rules::Verdict;
 use whole_step::StepAnswer;
 use whole_step::whole_step;
-ghost use Rattle.rules.specs.Problem.{problemIn};
+ghost use Rattle.rules.specs.Problem.{slices, problemIn};
 ghost use Rattle.step.specs.Update.{stateOf, stepFits};
 ghost use Rattle.iterate.specs.Iterate.{IterateOutcome};
 
@@ -21,7 +21,8 @@ pub fn iterate(
     par: SolverParam,
     shape: Shape,
     c: &[f64],
-    a: &[f64],
+    a1: &[f64],
+    a2: &[f64],
     b: &[f64],
     words: &[u16],
     norms: Norms,
@@ -39,8 +40,10 @@ pub fn iterate(
         (let s = stateOf (now (x .entry)) (now (y .entry)) (now («dp_tau» .entry)) (now («dp_sigma» .entry))
         (now (rx .entry)) (now (tx .entry)) (now («cone_work» .entry)) in
         IterateOutcome
-        (stepFits par shape (now (c .entry)) (now (a .entry)) (now (b .entry)) (now (words .entry)) s)
-        (problemIn shape (now (c .entry)) (now (a .entry)) (now (b .entry)) (now (words .entry)) par) norms
+        (stepFits par shape (now (c .entry)) (slices (now (a1 .entry)) (now (a2 .entry))) (now (b .entry))
+        (now (words .entry)) s)
+        (problemIn shape (now (c .entry)) (slices (now (a1 .entry)) (now (a2 .entry))) (now (b .entry))
+        (now (words .entry)) par) norms
         behind given s
         r
         (stateOf (now (x .exit)) (now (y .exit)) (now («dp_tau» .entry)) (now («dp_sigma» .entry))
@@ -56,7 +59,8 @@ pub fn iterate(
             par,
             shape,
             c,
-            a,
+            a1,
+            a2,
             b,
             words,
             norms,

@@ -41,3 +41,12 @@ pub fn write_total(name: &[u8], whole: bool, records: u64, agree: u64, differ: u
     io::write_all(STDOUT_FILENO, name);
     write_counts(records, agree, std::num::wrapping_add_u64(differ, 1));
 }
+
+// Writes whether a case holds, after its name.
+pub fn write_case(holds: bool) -> bool {
+    if holds {
+        io::write_all(STDOUT_FILENO, b": holds\n")
+    } else {
+        io::write_all(STDOUT_FILENO, b": does not hold\n")
+    }
+}

@@ -18,7 +18,7 @@ module _ (transpose : Bool) (alpha : Float) (mat x : List Float) (beta : Float) 
   scales-if-empty t e = rw e
 
   module _ {answer : Bool} {after : List Float} where
-    pub transforms : (t : MatType) → isEmpty t ≡ false → Outcome (transformFits transpose t mat x y) (transformed alpha (entries transpose t mat) x beta y) y answer after → Outcome (transformFits transpose t mat x y) (operated transpose t alpha mat x beta y) y answer after
+    pub transforms : {fits : Bool} (t : MatType) → isEmpty t ≡ false → Outcome fits (transformed alpha (entries transpose t mat) x beta y) y answer after → Outcome fits (operated transpose t alpha mat x beta y) y answer after
     unfolding operated
     transforms t e o = rw e o
 

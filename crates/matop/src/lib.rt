@@ -1,4 +1,6 @@
 // The operators of matop.rs: a matrix of either kind, with its sizes, times a vector.
+pub mod split;
+
 use rules::MatType;
 ghost use mathlib.Core.Path.{_≡_};
 ghost use Rattle.rules.specs.Outcome.{Outcome};
@@ -28,7 +30,7 @@ pub fn trans_op(t: MatType, alpha: f64, mat: &[f64], x: &[f64], beta: f64, y: &m
 }
 
 // What op and trans_op share.
-fn operate(
+pub(crate) fn operate(
     transpose: bool,
     t: MatType,
     alpha: f64,
@@ -66,7 +68,7 @@ fn operate(
 }
 
 // Whether there are no rows or no columns.
-fn is_empty(t: MatType) -> bool
+pub(crate) fn is_empty(t: MatType) -> bool
     ensures { λ r. ⌜ r ≡ isEmpty t ⌝ }
 {
     if matrix::height(false, t) == 0 {

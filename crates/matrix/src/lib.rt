@@ -1,11 +1,14 @@
 // The sizes of a matrix, dense by columns or packed, and whether what is stored and the vectors beside it fit them.
+use rules::Cols;
 use rules::LIMIT;
 use rules::MatType;
+use rules::Rows;
 ghost use Prim.Native.Nat.{_≤_};
 ghost use mathlib.Core.Path.{_≡_};
 ghost use Rattle.rules.specs.Limits.{limit};
 ghost use Rattle.rules.specs.Matrices.{nRow, nCol, storedLength, storedFits, transformFits};
 ghost use Rattle.rules.specs.Matrices as rules;
+ghost use Rattle.rules.specs.Split.{splitFits, splitTransformFits};
 ghost use Rattle.matrix.specs.Counted.{countedTriangle};
 
 // The largest order whose triangle 64 bits can count.
@@ -92,4 +95,55 @@ pub fn transform_fits(transpose: bool, t: MatType, mat: &[f64], x: &[f64], y: &[
         return false;
     }
     y.len() == height(transpose, t)
+}
+
+// Whether rows and columns are within the limits, and a dense matrix stands in two slices: the first columns in one, the rest in the other.
+pub fn split_fits(rows: Rows, cols: Cols, first: Cols, factory: &[f64], lesson: &[f64]) -> bool
+    ensures { λ r. ⌜ r ≡ splitFits (rows .0) (cols .0) (first .0) (now (factory .entry)) (now (lesson .entry)) ⌝ }
+{
+    let m = rows.0;
+    let n = cols.0;
+    let n1 = first.0;
+    if m > LIMIT {
+        return false;
+    }
+    if n > LIMIT {
+        return false;
+    }
+    if n1 > n {
+        return false;
+    }
+    if factory.len() != m * n1 {
+        return false;
+    }
+    lesson.len() == m * n - factory.len()
+}
+
+// Whether the matrix stands in the two slices, and x and y have the lengths that its sizes say.
+pub fn split_transform_fits(
+    transpose: bool,
+    rows: Rows,
+    cols: Cols,
+    first: Cols,
+    factory: &[f64],
+    lesson: &[f64],
+    x: &[f64],
+    y: &[f64],
+) -> bool
+    ensures { λ r. ⌜
+        r
+        ≡ splitTransformFits transpose (rows .0) (cols .0) (first .0) (now (factory .entry))
+        (now (lesson .entry)) (now (x .entry)) (now (y .entry))
+        ⌝ }
+{
+    let t = MatType::General(rows, cols);
+    let wide = width(transpose, t);
+    let high = height(transpose, t);
+    if !split_fits(rows, cols, first, factory, lesson) {
+        return false;
+    }
+    if x.len() != wide {
+        return false;
+    }
+    y.len() == high
 }

@@ -10,28 +10,28 @@ use Rattle.rules.specs.Vectors.{added}
 use Rattle.rules.specs.Matrices.{absaddedCols, absaddedRows}
 use Rattle.rules.specs.Blocks.{blocksOf, isBadCone}
 use Rattle.rules.specs.Product.{groupAll}
-use Rattle.rules.specs.Problem.{Problem, Embed, column, shapeOf}
+use Rattle.rules.specs.Problem.{Problem, Slices, Embed, column}
 use Rattle.rules.specs.Step.{part}
 use Rattle.rules.specs.Prepare.{sumsX, sumsY, sumsS, sumsTau, dpTauOf, dpSigmaOf}
 use Rattle.shape.specs.Fitting.{operatorsFit, fitsX, fitsY}
 
 -- the sizes are within the limits, c, A and b have the lengths that they ask, and the cone list is no BadCone for m places
-abbrev pub problemFits : Problem → Bool
-problemFits p = operatorsFit (shapeOf p) (p .c) (p .a) (p .b) && not (isBadCone (p .words) (p .m))
+abbrev pub problemFits : Shape → List Float → Slices → List Float → List ℕ → Bool
+problemFits shape c a b words = operatorsFit shape c a b && not (isBadCone words (shape .rows .0))
 
 -- the list alone
 pub record Covers (shape : Shape) (words : List ℕ) : Type 0 where
   pub is : isBadCone words (shape .rows .0) ≡ false
 
 -- .. and the two diagonals are a vector like x and one like y
-abbrev pub precondFits : Problem → List Float → List Float → Bool
-precondFits p tau sigma = problemFits p && fitsX (shapeOf p) tau && fitsY (shapeOf p) sigma
+abbrev pub precondFits : Shape → List Float → Slices → List Float → List ℕ → List Float → List Float → Bool
+precondFits shape c a b words tau sigma = problemFits shape c a b words && fitsX shape tau && fitsY shape sigma
 
 -- The complete outcome: it answers whether all fits. If so, both diagonals hold what the rules say, and if not, what they held before.
-pub record PrecondOutcome (p : Problem) (tau sigma : List Float) (answer : Bool) (tau' sigma' : List Float) : Type 0 where
-  pub answered : answer ≡ precondFits p tau sigma
-  pub tau-left : tau' ≡ cond (precondFits p tau sigma) (dpTauOf p tau) tau
-  pub sigma-left : sigma' ≡ cond (precondFits p tau sigma) (dpSigmaOf p tau) sigma
+pub record PrecondOutcome (fits : Bool) (p : Problem) (tau sigma : List Float) (answer : Bool) (tau' sigma' : List Float) : Type 0 where
+  pub answered : answer ≡ fits
+  pub tau-left : tau' ≡ cond fits (dpTauOf p tau) tau
+  pub sigma-left : sigma' ≡ cond fits (dpSigmaOf p tau) sigma
 
 -- ---- abssum: the absolute sums of the operator's columns are added to what the parts of a vector like x hold
 module _ (k : Embed) (v : List Float) where

@@ -1,90 +1,104 @@
 // The absolute sums of the operator's columns and rows: abssum of solver.rs.
 use rules::Shape;
 use shape::column;
-use shape::matrix_of;
 ghost use Prim.Native.Nat.{_+_, _≤_};
 ghost use mathlib.Core.Path.{_≡_};
 ghost use lib.ListN.{length};
 ghost use Rattle.rules.specs.Arithmetic.{+0};
 ghost use Rattle.rules.specs.Vectors.{scaled};
-ghost use Rattle.rules.specs.Problem.{embedIn};
+ghost use Rattle.rules.specs.Problem.{slices, embedIn};
 ghost use Rattle.rules.specs.Step.{part};
 ghost use Rattle.shape.specs.Fitting.{Fits, LikeX, LikeY};
 ghost use Rattle.precond.specs.Precond.{withSumsX, withSumsY, withSumsTau, columnSums, rowSums, rowsM, rowsOf};
 
 // The absolute sums of the operator's columns, and of its rows.
-pub(crate) fn abssum(
+pub(crate) fn abssum<'a>(
     shape: Shape,
     c: &[f64],
-    a: &[f64],
+    a1: &'a [f64],
+    a2: &'a [f64],
     b: &[f64],
     tau: &mut [f64],
     sigma: &mut [f64],
 )
-    requires { ⌜ Fits shape (now c) (now a) (now b) ⌝ }
+    requires { ⌜ Fits shape (now c) (slices (now a1) (now a2)) (now b) ⌝ }
     requires { ⌜ LikeX shape (now tau) ⌝ }
     requires { ⌜ LikeY shape (now sigma) ⌝ }
     ensures tau_left { λ _. ⌜
         now (tau .exit)
-        ≡ columnSums (embedIn shape (now (c .entry)) (now (a .entry)) (now (b .entry)))
+        ≡ columnSums (embedIn shape (now (c .entry)) (slices (now (a1 .entry)) (now (a2 .entry))) (now (b .entry)))
         (scaled +0 (now (tau .entry)))
         ⌝ }
     ensures sigma_left { λ _. ⌜
         now (sigma .exit)
-        ≡ rowSums (embedIn shape (now (c .entry)) (now (a .entry)) (now (b .entry)))
+        ≡ rowSums (embedIn shape (now (c .entry)) (slices (now (a1 .entry)) (now (a2 .entry))) (now (b .entry)))
         (scaled +0 (now (tau .entry)))
         ⌝ }
 {
     linalg::scale(0.0, tau);
-    column_sums(shape, c, a, b, tau);
+    column_sums(shape, c, a1, a2, b, tau);
     row_sums(shape, tau, sigma);
 }
 
 // The columns' sums are added to tau.
-fn column_sums(shape: Shape, c: &[f64], a: &[f64], b: &[f64], tau: &mut [f64])
-    requires { ⌜ Fits shape (now c) (now a) (now b) ⌝ }
+fn column_sums<'a>(
+    shape: Shape,
+    c: &[f64],
+    a1: &'a [f64],
+    a2: &'a [f64],
+    b: &[f64],
+    tau: &mut [f64],
+)
+    requires { ⌜ Fits shape (now c) (slices (now a1) (now a2)) (now b) ⌝ }
     requires { ⌜ LikeX shape (now tau) ⌝ }
-    ensures { λ _. ⌜ now (tau .exit) ≡ columnSums (embedIn shape (now (c .entry)) (now (a .entry)) (now (b .entry))) (now (tau .entry)) ⌝ }
+    ensures { λ _. ⌜
+        now (tau .exit) ≡ columnSums (embedIn shape (now (c .entry))
+        (slices (now (a1 .entry)) (now (a2 .entry))) (now (b .entry))) (now (tau .entry))
+        ⌝ }
 {
     let m = shape.rows.0;
     let n = shape.cols.0;
     let nm = n + m;
     let nmm = nm + m;
     let nmm1 = nmm + 1;
-    sums_x(shape, c, a, b, &mut tau[0..n]);
-    sums_y(shape, c, a, b, &mut tau[n..nm]);
+    sums_x(shape, c, a1, a2, b, &mut tau[0..n]);
+    sums_y(shape, c, a1, a2, b, &mut tau[n..nm]);
     linalg::adds(1.0, &mut tau[nm..nmm]);
-    sums_tau(shape, c, a, b, &mut tau[nmm..nmm1]);
+    sums_tau(shape, c, a1, a2, b, &mut tau[nmm..nmm1]);
 }
 
-fn sums_x(shape: Shape, c: &[f64], a: &[f64], b: &[f64], tau_x: &mut [f64])
-    requires { ⌜ Fits shape (now c) (now a) (now b) ⌝ }
+fn sums_x<'a>(shape: Shape, c: &[f64], a1: &'a [f64], a2: &'a [f64], b: &[f64], tau_x: &mut [f64])
+    requires { ⌜ Fits shape (now c) (slices (now a1) (now a2)) (now b) ⌝ }
     requires { ⌜ length (now «tau_x») ≡ shape .cols .0 ⌝ }
-    ensures { λ _. ⌜ now («tau_x» .exit) ≡ withSumsX (embedIn shape (now (c .entry)) (now (a .entry)) (now (b .entry))) (now («tau_x» .entry)) ⌝ }
+    ensures { λ _. ⌜
+        now («tau_x» .exit) ≡ withSumsX (embedIn shape (now (c .entry))
+        (slices (now (a1 .entry)) (now (a2 .entry))) (now (b .entry))) (now («tau_x» .entry))
+        ⌝ }
 {
     let n = shape.cols.0;
-    let t = matrix_of(shape);
-    absadd::absadd_cols(t, a, tau_x);
+    columns::absadd_cols(shape, a1, a2, tau_x);
     absadd::absadd_rows(column(n), c, tau_x);
 }
 
-fn sums_y(shape: Shape, c: &[f64], a: &[f64], b: &[f64], tau_y: &mut [f64])
-    requires { ⌜ Fits shape (now c) (now a) (now b) ⌝ }
+fn sums_y(shape: Shape, c: &[f64], a1: &[f64], a2: &[f64], b: &[f64], tau_y: &mut [f64])
+    requires { ⌜ Fits shape (now c) (slices (now a1) (now a2)) (now b) ⌝ }
     requires { ⌜ length (now «tau_y») ≡ shape .rows .0 ⌝ }
-    ensures { λ _. ⌜ now («tau_y» .exit) ≡ withSumsY (embedIn shape (now (c .entry)) (now (a .entry)) (now (b .entry))) (now («tau_y» .entry)) ⌝ }
+    ensures { λ _. ⌜
+        now («tau_y» .exit) ≡ withSumsY (embedIn shape (now (c .entry))
+        (slices (now (a1 .entry)) (now (a2 .entry))) (now (b .entry))) (now («tau_y» .entry))
+        ⌝ }
 {
     let m = shape.rows.0;
-    let t = matrix_of(shape);
-    absadd::absadd_rows(t, a, tau_y);
+    columns::absadd_rows(shape, a1, a2, tau_y);
     absadd::absadd_rows(column(m), b, tau_y);
 }
 
-fn sums_tau(shape: Shape, c: &[f64], a: &[f64], b: &[f64], tau_tau: &mut [f64])
-    requires { ⌜ Fits shape (now c) (now a) (now b) ⌝ }
+fn sums_tau(shape: Shape, c: &[f64], a1: &[f64], a2: &[f64], b: &[f64], tau_tau: &mut [f64])
+    requires { ⌜ Fits shape (now c) (slices (now a1) (now a2)) (now b) ⌝ }
     requires { ⌜ length (now «tau_tau») ≡ 1 ⌝ }
     ensures { λ _. ⌜
         now («tau_tau» .exit)
-        ≡ withSumsTau (embedIn shape (now (c .entry)) (now (a .entry)) (now (b .entry)))
+        ≡ withSumsTau (embedIn shape (now (c .entry)) (slices (now (a1 .entry)) (now (a2 .entry))) (now (b .entry)))
         (now («tau_tau» .entry))
         ⌝ }
 {

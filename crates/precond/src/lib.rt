@@ -9,7 +9,7 @@ use shape::operators_fit;
 ghost use Prim.Native.Nat.{_≤_};
 ghost use mathlib.Core.Path.{_≡_};
 ghost use Rattle.rules.specs.Limits.{limit};
-ghost use Rattle.rules.specs.Problem.{problemIn};
+ghost use Rattle.rules.specs.Problem.{slices, problemIn};
 ghost use Rattle.rules.specs.Prepare as rules;
 ghost use Rattle.rules.specs.Prepare.{dpTauOf, dpSigmaOf};
 ghost use Rattle.shape.specs.Fitting.{Fits, LikeX, LikeY};
@@ -17,35 +17,39 @@ ghost use Rattle.precond.specs.Precond.{Covers, precondFits, PrecondOutc
 
 // The two diagonals: 1 over the larger of each absolute sum and eps_zero, grouped for the two cone parts of the first. Where a
 // length, a size or the cone list doesn't fit, it answers no and changes nothing.
-pub fn calc_precond(
+pub fn calc_precond<'a>(
     par: SolverParam,
     shape: Shape,
     c: &[f64],
-    a: &[f64],
+    a1: &'a [f64],
+    a2: &'a [f64],
     b: &[f64],
     words: &[u16],
     dp_tau: &mut [f64],
     dp_sigma: &mut [f64],
 ) -> bool
     ensures { λ r. ⌜
+        (let a = slices (now (a1 .entry)) (now (a2 .entry)) in
         PrecondOutcome
-        (problemIn shape (now (c .entry)) (now (a .entry)) (now (b .entry)) (now (words .entry)) par)
-        (now («dp_tau» .entry)) (now («dp_sigma» .entry)) r (now («dp_tau» .exit)) (now («dp_sigma» .exit))
+        (precondFits shape (now (c .entry)) a (now (b .entry)) (now (words .entry)) (now («dp_tau» .entry))
+        (now («dp_sigma» .entry)))
+        (problemIn shape (now (c .entry)) a (now (b .entry)) (now (words .entry)) par)
+        (now («dp_tau» .entry)) (now («dp_sigma» .entry)) r (now («dp_tau» .exit)) (now («dp_sigma» .exit)))
         ⌝ }
 {
-    if !fits(par, shape, c, a, b, words, dp_tau, dp_sigma) {
+    if !fits(shape, c, a1, a2, b, words, dp_tau, dp_sigma) {
         return false;
     }
-    precond_all(par, shape, c, a, b, words, dp_tau, dp_sigma);
+    precond_all(par, shape, c, a1, a2, b, words, dp_tau, dp_sigma);
     true
 }
 
 // Whether c, A and b, the cone list and the two vectors are as the shape says.
 fn fits(
-    par: SolverParam,
     shape: Shape,
     c: &[f64],
-    a: &[f64],
+    a1: &[f64],
+    a2: &[f64],
     b: &[f64],
     words: &[u16],
     tau: &[f64],
@@ -53,12 +57,11 @@ fn fits(
 ) -> bool
     ensures { λ r. ⌜
         r
-        ≡ precondFits
-        (problemIn shape (now (c .entry)) (now (a .entry)) (now (b .entry)) (now (words .entry)) par)
-        (now (tau .entry)) (now (sigma .entry))
+        ≡ precondFits shape (now (c .entry)) (slices (now (a1 .entry)) (now (a2 .entry))) (now (b .entry))
+        (now (words .entry)) (now (tau .entry)) (now (sigma .entry))
         ⌝ }
 {
-    if !operators_fit(shape, c, a, b) {
+    if !operators_fit(shape, c, a1, a2, b) {
         return false;
     }
     if words::is_bad_cone(words, shape.rows.0) {
@@ -71,33 +74,36 @@ fn fits(
 }
 
 // What calc_precond does where all fits.
-fn precond_all(
+fn precond_all<'a>(
     par: SolverParam,
     shape: Shape,
     c: &[f64],
-    a: &[f64],
+    a1: &'a [f64],
+    a2: &'a [f64],
     b: &[f64],
     words: &[u16],
     dp_tau: &mut [f64],
     dp_sigma: &mut [f64],
 )
-    requires { ⌜ Fits shape (now c) (now a) (now b) ⌝ }
+    requires { ⌜ Fits shape (now c) (slices (now a1) (now a2)) (now b) ⌝ }
     requires { ⌜ Covers shape (now words) ⌝ }
     requires { ⌜ LikeX shape (now «dp_tau») ⌝ }
     requires { ⌜ LikeY shape (now «dp_sigma») ⌝ }
     ensures tau_left { λ _. ⌜
         now («dp_tau» .exit)
-        ≡ dpTauOf (problemIn shape (now (c .entry)) (now (a .entry)) (now (b .entry)) (now (words .entry)) par)
+        ≡ dpTauOf (problemIn shape (now (c .entry)) (slices (now (a1 .entry)) (now (a2 .entry)))
+        (now (b .entry)) (now (words .entry)) par)
         (now («dp_tau» .entry))
         ⌝ }
     ensures sigma_left { λ _. ⌜
         now («dp_sigma» .exit)
         ≡ dpSigmaOf
-        (problemIn shape (now (c .entry)) (now (a .entry)) (now (b .entry)) (now (words .entry)) par)
+        (problemIn shape (now (c .entry)) (slices (now (a1 .entry)) (now (a2 .entry))) (now (b .entry))
+        (now (words .entry)) par)
         (now («dp_tau» .entry))
         ⌝ }
 {
-    abs_sums::abssum(shape, c, a, b, dp_tau, dp_sigma);
+    abs_sums::abssum(shape, c, a1, a2, b, dp_tau, dp_sigma);
     diagonal(par.eps_zero, dp_tau);
     diagonal(par.eps_zero, dp_sigma);
     group_parts(shape, words, dp_tau);

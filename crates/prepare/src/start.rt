@@ -10,7 +10,7 @@ ghost use Rattle.rules.specs.Limits.{limit};
 ghost use Rattle.rules.specs.Helpers.{one};
 ghost use Rattle.rules.specs.Arithmetic.{+0};
 ghost use Rattle.rules.specs.Vectors.{scaled};
-ghost use Rattle.rules.specs.Problem.{embedIn};
+ghost use Rattle.rules.specs.Problem.{slices, embedIn};
 ghost use Rattle.rules.specs.Prepare.{columnIn, withB, withC, frNorm, norms};
 ghost use Rattle.shape.specs.Fitting.{Fits, LikeX};
 ghost use Rattle.prepare.specs.Prepare.{Started};
@@ -19,33 +19,38 @@ ghost use Rattle.prepare.specs.Prepare.{Started};
 pub(crate) fn start(
     shape: Shape,
     c: &[f64],
-    a: &[f64],
+    a1: &[f64],
+    a2: &[f64],
     b: &[f64],
     x: &mut [f64],
     y: &mut [f64],
 ) -> Norms
-    requires { ⌜ Fits shape (now c) (now a) (now b) ⌝ }
+    requires { ⌜ Fits shape (now c) (slices (now a1) (now a2)) (now b) ⌝ }
     requires { ⌜ LikeX shape (now x) ⌝ }
     ensures { λ r. ⌜
-        Started (embedIn shape (now (c .entry)) (now (a .entry)) (now (b .entry))) (now (x .entry))
+        Started (embedIn shape (now (c .entry)) (slices (now (a1 .entry)) (now (a2 .entry)))
+        (now (b .entry))) (now (x .entry))
         (now (y .entry)) r (now (x .exit)) (now (y .exit))
         ⌝ }
 {
-    let norms = calc_norms(shape, c, a, b, x);
+    let norms = calc_norms(shape, c, a1, a2, b, x);
     init_vecs(shape, x, y);
     norms
 }
 
 // The norms of b, then c, worked out at the front of x.
-fn calc_norms(shape: Shape, c: &[f64], a: &[f64], b: &[f64], x: &mut [f64]) -> Norms
-    requires { ⌜ Fits shape (now c) (now a) (now b) ⌝ }
+fn calc_norms(shape: Shape, c: &[f64], a1: &[f64], a2: &[f64], b: &[f64], x: &mut [f64]) -> Norms
+    requires { ⌜ Fits shape (now c) (slices (now a1) (now a2)) (now b) ⌝ }
     requires { ⌜ LikeX shape (now x) ⌝ }
     ensures x_left { λ _. ⌜
-        (let k = embedIn shape (now (c .entry)) (now (a .entry)) (now (b .entry)) in
+        (let k = embedIn shape (now (c .entry)) (slices (now (a1 .entry)) (now (a2 .entry))) (now (b .entry)) in
         now (x .exit)
         ≡ withC k (withB k (now (x .entry))))
         ⌝ }
-    ensures norms_are { λ r. ⌜ r ≡ norms (embedIn shape (now (c .entry)) (now (a .entry)) (now (b .entry))) (now (x .entry)) ⌝ }
+    ensures norms_are { λ r. ⌜
+        r ≡ norms (embedIn shape (now (c .entry)) (slices (now (a1 .entry)) (now (a2 .entry)))
+        (now (b .entry))) (now (x .entry))
+        ⌝ }
 {
     let norm_b = norm_in(shape.rows.0, b, x);
     let norm_c = norm_in(shape.cols.0, c, x);

@@ -11,13 +11,13 @@ use Rattle.rules.specs.Limits.{limit}
 use Rattle.rules.specs.Blocks.{hasBadWord, blocksOf, totalPlaces}
 use Rattle.rules.specs.Projections.{sweepsFit}
 use Rattle.rules.specs.Product.{Passed, coneWork, lengthsFit}
-use Rattle.rules.specs.Problem.{problemIn}
+use Rattle.rules.specs.Problem.{problemIn, slices}
 use Rattle.rules.specs.Step.{projected}
 use Rattle.shape.specs.Fitting.{fitsX}
 
 -- the projection of a problem, of which it reads no more than this
 abbrev pub projectedIn : SolverParam → Shape → List ℕ → List Float → List Float → Passed
-projectedIn par shape words x cone = projected (problemIn shape [] [] [] words par) x cone
+projectedIn par shape words x cone = projected (problemIn shape [] (slices [] []) [] words par) x cone
 
 -- a vector like x, a list of cones for m places, cone work that is long enough, and a sweep limit within its range
 abbrev pub projectFits : SolverParam → Shape → List ℕ → List Float → List Float → Bool

@@ -38,15 +38,16 @@ pub(crate) fn numbers(record: &[u8], v: Vector) -> [f64; ROOM] {
     let mut numbers = [0.0; ROOM];
     let length = v.length;
     if length <= ROOM {
-        fill(record, v, &mut numbers[0..length]);
+        fill(record, v, 0, &mut numbers[0..length]);
     }
     numbers
 }
 
-pub(crate) fn fill(record: &[u8], v: Vector, numbers: &mut [f64]) {
+// The numbers of a vector from one on, which stands at a place below those given.
+pub(crate) fn fill(record: &[u8], v: Vector, from: usize, numbers: &mut [f64]) {
     let at = v.at;
     let given = v.given;
-    let mut k: usize = 0;
+    let mut k: usize = from;
     for i in 0..numbers.len() {
         if k >= given {
             k = 0;

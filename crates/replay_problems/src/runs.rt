@@ -2,10 +2,14 @@
 use crate::room;
 use crate::room::Vector;
 use replay::record;
+use rules::Answer;
 use rules::Cols;
 use rules::Rows;
 use rules::SolverParam;
 use rules::Storage;
+ghost use mathlib.Core.Path.{_≡_};
+ghost use lib.Dec.{eqb};
+ghost use Rattle.replay.specs.Records.{wordOf};
 
 // The answer's number in the list, and whether it is had here.
 pub enum Found {
@@ -14,10 +18,17 @@ pub enum Found {
     Unknown,
 }
 
+// How A is handed over: in one slice, or in two, with so many columns in the first.
+pub enum Cut {
+    Whole,
+    After(usize),
+}
+
 // The place of the number of cone words.
 const BLOCKS_AT: usize = 8;
 
-pub fn replay(record: &[u8], a_room: &mut [f64]) -> Found {
+// Runs a record's problem and compares. The original ran it over the whole matrix, so a record says what comes of any cut.
+pub fn replay(record: &[u8], cut: Cut, a_room: &mut [f64]) -> Found {
     let blocks = record::size(record, BLOCKS_AT);
     if blocks > room::WORD_ROOM {
         return Found::Unknown;
@@ -33,6 +44,7 @@ pub fn replay(record: &[u8], a_room: &mut [f64]) -> Found {
     let lent_at = room::after(b);
     let agrees = takes(
         record,
+        cut,
         lent_at,
         c,
         a,
@@ -54,9 +66,42 @@ fn told(agrees: bool, number: usize) -> Found {
     }
 }
 
-// Takes the vectors out of the record.
+// Whether a record's matrix is dense.
+pub fn is_dense(record: &[u8]) -> bool
+    ensures { λ r. ⌜ r ≡ eqb (wordOf (now («record» .entry)) 5) 0 ⌝ }
+{
+    record::word(record, 5) == 0
+}
+
+// A record's number of columns.
+pub fn columns(record: &[u8]) -> usize
+    ensures { λ r. ⌜ r ≡ wordOf (now («record» .entry)) 6 ⌝ }
+{
+    record::size(record, 6)
+}
+
+// How many numbers of A stand in the first slice: all, where it has no more than the cut asks.
+fn in_first(record: &[u8], cut: Cut, length: usize) -> usize {
+    let rows = record::size(record, 7);
+    match cut {
+        Cut::Whole => length,
+        Cut::After(first) => {
+            if rows > room::ROOM {
+                return length;
+            }
+            if first > room::ROOM {
+                return length;
+            }
+            let asked = rows * first;
+            if asked < length { asked } else { length }
+        }
+    }
+}
+
+// Takes the vectors out of the record. The second slice is put before the first, so that the two don't stand in the matrix's order.
 fn takes(
     record: &[u8],
+    cut: Cut,
     lent_at: usize,
     c: Vector,
     a: Vector,
@@ -64,7 +109,15 @@ fn takes(
     words: &[u16],
     a_numbers: &mut [f64],
 ) -> bool {
-    room::fill(record, a, a_numbers);
+    let length = a_numbers.len();
+    let first = in_first(record, cut, length);
+    if first > length {
+        return false;
+    }
+    let rest = length - first;
+    let from = first_again(a, first);
+    room::fill(record, a, from, &mut a_numbers[0..rest]);
+    room::fill(record, a, 0, &mut a_numbers[rest..]);
     let c_length = c.length;
     let b_length = b.length;
     if c_length > room::ROOM {
@@ -77,16 +130,38 @@ fn takes(
     let b_numbers = room::numbers(record, b);
     lends(
         record,
+        cut,
         lent_at,
         &c_numbers[0..c_length],
         a_numbers,
+        rest,
         &b_numbers[0..b_length],
         words,
     )
 }
 
+// The place, among the numbers given, of number k of a vector that has them over and over.
+fn first_again(v: Vector, k: usize) -> usize {
+    if v.given == 0 {
+        return 0;
+    }
+    k % v.given
+}
+
 // Lends buffers, all of whose places hold one number before.
-fn lends(record: &[u8], lent_at: usize, c: &[f64], a: &[f64], b: &[f64], words: &[u16]) -> bool {
+fn lends(
+    record: &[u8],
+    cut: Cut,
+    lent_at: usize,
+    c: &[f64],
+    a: &[f64],
+    rest: usize,
+    b: &[f64],
+    words: &[u16],
+) -> bool {
+    if rest > a.len() {
+        return false;
+    }
     let work_length = record::size(record, lent_at);
     let cone_length = record::size(record, std::num::wrapping_add_usize(lent_at, 1));
     if work_length > room::WORK_ROOM {
@@ -100,10 +175,12 @@ fn lends(record: &[u8], lent_at: usize, c: &[f64], a: &[f64], b: &[f64], words: 
     let mut cone_work = [before; room::CONE_ROOM];
     agrees(
         record,
+        cut,
         std::num::wrapping_add_usize(lent_at, 3),
         patterns::pattern_of(before),
         c,
-        a,
+        &a[rest..],
+        &a[0..rest],
         b,
         words,
         &mut work[0..work_length],
@@ -122,20 +199,70 @@ fn parameters(record: &[u8]) -> SolverParam {
 }
 
 fn storage(record: &[u8]) -> Storage {
-    if record::word(record, 5) == 0 {
+    if is_dense(record) {
         Storage::Dense
     } else {
         Storage::Packed
     }
 }
 
-// Runs the problem, and compares what is answered and left with what the record holds from a place on.
-fn agrees(
+// Runs the problem, its matrix cut or whole.
+fn run<'a>(
     record: &[u8],
+    cut: Cut,
+    c: &[f64],
+    a1: &'a [f64],
+    a2: &'a [f64],
+    b: &[f64],
+    words: &[u16],
+    work: &mut [f64],
+    cone_work: &mut [f64],
+) -> Answer {
+    let par = parameters(record);
+    let rows = Rows(record::size(record, 7));
+    let cols = Cols(record::size(record, 6));
+    match cut {
+        Cut::Whole => {
+            solver::solve(
+                par,
+                rows,
+                cols,
+                storage(record),
+                c,
+                a1,
+                b,
+                words,
+                work,
+                cone_work,
+            )
+        }
+        Cut::After(first) => {
+            solver::solve_split(
+                par,
+                rows,
+                cols,
+                Cols(first),
+                c,
+                a1,
+                a2,
+                b,
+                words,
+                work,
+                cone_work,
+            )
+        }
+    }
+}
+
+// Runs the problem, and compares what is answered and left with what the record holds from a place on.
+fn agrees<'a>(
+    record: &[u8],
+    cut: Cut,
     answer_at: usize,
     before: u64,
     c: &[f64],
-    a: &[f64],
+    a1: &'a [f64],
+    a2: &'a [f64],
     b: &[f64],
     words: &[u16],
     work: &mut [f64],
@@ -143,18 +270,7 @@ fn agrees(
 ) -> bool {
     let rows = Rows(record::size(record, 7));
     let cols = Cols(record::size(record, 6));
-    let answer = solver::solve(
-        parameters(record),
-        rows,
-        cols,
-        storage(record),
-        c,
-        a,
-        b,
-        words,
-        work,
-        cone_work,
-    );
+    let answer = run(record, cut, c, a1, a2, b, words, work, cone_work);
     let ending = answer.ending;
     if !replay_answers::is_told(record, answer_at, ending, answer.steps, answer.rotations) {
         return false;

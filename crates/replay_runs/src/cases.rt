@@ -1,5 +1,6 @@
 // The runs worked by hand in document 01 that are left to a program.
 use libc::STDOUT_FILENO;
+use lines::write_case;
 use replay_problems::room;
 use rules::Cols;
 use rules::Rows;
@@ -41,14 +42,6 @@ fn of_zeros(m: usize, n: usize, c: usize, a: usize, work: usize, word: u16) -> u
     );
     let ending = answer.ending;
     replay_answers::number_of(ending)
-}
-
-fn write_case(holds: bool) -> bool {
-    if holds {
-        io::write_all(STDOUT_FILENO, b": holds\n")
-    } else {
-        io::write_all(STDOUT_FILENO, b": does not hold\n")
-    }
 }
 
 // The words are a nonnegative block of 256 and of 257, a semidefinite one of 3 and of 4.

@@ -1,11 +1,14 @@
 // Replays whole problems: standard input holds the number of records and then the records, as
 // compare/README.md says. Each problem is run by solver::solve, and its answer and all of both buffers
-// are held to the list. Then come the runs worked by hand.
+// are held to the list. Each dense one is then run by solver::solve_split, cut after so many columns, and
+// held to the same record. Then come the runs worked by hand.
 mod cases;
+mod cuts;
 
 use libc::STDOUT_FILENO;
 use replay_problems::room::A_ROOM;
 use replay_problems::runs;
+use replay_problems::runs::Cut;
 use replay_problems::runs::Found;
 
 // The longest record of the list has 4,307 words.
@@ -28,7 +31,10 @@ const BELOW_ZERO: usize = 16;
 
 const ZEROS: usize = 17;
 
-const COUNTED: usize = 18;
+// Of those with a dense matrix, once more: 18 to 22, by where it is cut.
+const CUT: usize = 18;
+
+const COUNTED: usize = 23;
 
 // Reads a record and replays it: whether there was a whole one of a known kind.
 fn replay_one(a: &mut [f64], agree: &mut [u64; COUNTED], differ: &mut [u64; COUNTED]) -> bool {
@@ -57,10 +63,31 @@ fn replay_rest(
     if !lines::read(&mut bytes, length) {
         return false;
     }
-    let found = runs::replay(&bytes[0..length], a);
-    match found {
+    let found = runs::replay(&bytes[0..length], Cut::Whole, a);
+    let told = match found {
         Found::Agrees(number) => count(agree, number, tag),
         Found::Differs(number) => count(differ, number, tag),
+        Found::Unknown => false,
+    };
+    told && replay_cut(&bytes[0..length], a, agree, differ)
+}
+
+// Replays a record with a dense matrix once more, cut in one of five ways, which take turns.
+fn replay_cut(
+    record: &[u8],
+    a: &mut [f64],
+    agree: &mut [u64; COUNTED],
+    differ: &mut [u64; COUNTED],
+) -> bool {
+    if !runs::is_dense(record) {
+        return true;
+    }
+    let way = cuts::next(agree[ALL]);
+    let first = cuts::first(way, runs::columns(record));
+    let found = runs::replay(record, Cut::After(first), a);
+    match found {
+        Found::Agrees(_) => tally::count(agree, std::num::wrapping_add_usize(CUT, way)),
+        Found::Differs(_) => tally::count(differ, std::num::wrapping_add_usize(CUT, way)),
         Found::Unknown => false,
     }
 }
@@ -111,7 +138,10 @@ fn write_name(number: usize) -> bool {
     if number <= 12 {
         return write_ending(number);
     }
-    write_difference(number)
+    if number < CUT {
+        return write_difference(number);
+    }
+    cuts::write_name(number - CUT)
 }
 
 fn write_refusal(number: usize) -> bool {

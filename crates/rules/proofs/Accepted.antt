@@ -17,7 +17,7 @@ use Rattle.rules.specs.Refusals.{isPacked, badTolerance, badParam, tooLa
 use Rattle.rules.proofs.Refusals.{none-holds}
 use Rattle.rules.proofs.Lengths.{Fitting}
 
-neither : (a b : Bool) → a || b ≡ false → (a ≡ false) × (b ≡ false)
+pub neither : (a b : Bool) → a || b ≡ false → (a ≡ false) × (b ≡ false)
 neither true b e = absurd (true≢false e)
 neither false b e = (refl, e)
 

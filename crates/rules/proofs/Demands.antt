@@ -1,6 +1,7 @@
 -- The owner's demands hold of the rules: each statement of `specs/Demands.antt`, with its proof's place.
 use Prim.Native.Nat.{ℕ, _+_}
 use mathlib.Core.Path.{_≡_}
+use mathlib.Core.Bool.{true}
 use mathlib.Core.List.{List}
 use lib.Ieee.{Float}
 use lib.ListN.{length}
@@ -13,13 +14,15 @@ use Rattle.rules.specs.declared.Criteria.{Criteria}
 use Rattle.rules.specs.Run.{pieceFrom, takenUp, Ended, run, leftBy}
 use Rattle.rules.specs.declared.Refusal.the-variants.{Accepted}
 use Rattle.rules.specs.Refusals.{Fact, facts, refusal, readProblem, solved, SolveOutcome}
-use Rattle.rules.specs.Demands.{NoneHolds, NumberedFrom, GivenExactly, TurnedAwayExactly, GoesByTheRules, EndsFirst, GoesOnExactly, ConvergedExactly, RotationsBounded, AnsweredByTheRules, OldContentsChangeNothing, PlacesBeyondKept}
+use Rattle.rules.specs.Split.{SplitProblem, slicesFit, joinedProblem, splitFacts, splitRefusal, splitSolved, SplitOutcome}
+use Rattle.rules.specs.Demands.{NoneHolds, NumberedFrom, GivenExactly, TurnedAwayExactly, SplitTurnedAwayExactly, AsJoinedOrInvalid, GoesByTheRules, EndsFirst, GoesOnExactly, ConvergedExactly, RotationsBounded, AnsweredByTheRules, OldContentsChangeNothing, SplitOldContentsChangeNothing, PlacesBeyondKept, SplitPlacesBeyondKept}
 use Rattle.rules.proofs.Refusals as Refusals
 use Rattle.rules.proofs.Run as Run
 use Rattle.rules.proofs.Converged as Converged
 use Rattle.rules.proofs.Rotations as Rotations
 use Rattle.rules.proofs.OldContents as OldContents
 use Rattle.rules.proofs.Answered as Answered
+use Rattle.rules.proofs.SplitRuns as SplitRuns
 
 -- ---- demand 1
 
@@ -84,3 +87,35 @@ rotations-bounded = Rotations.run-bounded
 -- "What the buffers held before changes none of it"
 pub old-contents-change-nothing : (p : Problem) (work cone work' cone' : List Float) → refusal p (length work) (length cone) ≡ Accepted → refusal p (length work') (length cone') ≡ Accepted → OldContentsChangeNothing p work cone work' cone'
 old-contents-change-nothing = OldContents.old-contents-change-nothing
+
+-- ---- request (v): a problem whose dense A stands in two slices, the first columns in one and the rest in the other
+
+-- demand 1, by its own table
+pub split-turned-away-exactly : (p : SplitProblem) (work cone : List Float) → SplitTurnedAwayExactly p work cone
+split-turned-away-exactly = SplitRuns.split-turned-away-exactly
+
+-- "Prove the run equal to the run over the joined matrix": where the slices have their lengths, what `solve_split` may answer and leave is what `solve` may over
+-- the joined matrix: answer, k, q and every place of both buffers, refusals too
+pub split-outcome-is-the-joined : (p : SplitProblem) (work cone : List Float) (answer : Answer) (work' cone' : List Float) → SplitOutcome p work cone answer work' cone' → slicesFit p ≡ true → SolveOutcome (joinedProblem p) work cone answer work' cone'
+split-outcome-is-the-joined = SplitRuns.outcome-over-joined
+
+-- the same of the rules
+pub split-runs-as-joined : (p : SplitProblem) (work cone : List Float) → slicesFit p ≡ true → splitSolved p work cone ≡ solved (joinedProblem p) work cone
+split-runs-as-joined = SplitRuns.split-runs-as-joined
+
+-- of any problem in two slices: only InvalidOp is new
+pub as-joined-or-invalid : (p : SplitProblem) (work cone : List Float) → AsJoinedOrInvalid p work cone
+as-joined-or-invalid = SplitRuns.as-joined-or-invalid
+
+-- "all other demands then carrying over, k and q included"
+pub split-runs-as-demanded : (p : SplitProblem) (work cone : List Float) (answer : Answer) (work' cone' : List Float) → SplitOutcome p work cone answer work' cone' → NoneHolds (splitFacts p (length work) (length cone)) → AnsweredByTheRules (readProblem (joinedProblem p)) answer work' cone'
+split-runs-as-demanded = SplitRuns.split-runs-as-demanded
+
+pub split-old-contents-change-nothing : (p : SplitProblem) (work cone work' cone' : List Float) → splitRefusal p (length work) (length cone) ≡ Accepted → splitRefusal p (length work') (length cone') ≡ Accepted → SplitOldContentsChangeNothing p work cone work' cone'
+split-old-contents-change-nothing = SplitRuns.split-old-contents-change-nothing
+
+pub split-places-beyond-kept : (p : SplitProblem) (work cone : List Float) → SplitPlacesBeyondKept p work cone
+split-places-beyond-kept = SplitRuns.split-places-beyond-kept
+
+pub any-two-split-outcomes-coincide : {p : SplitProblem} {work cone : List Float} {a a' : Answer} {w w' k k' : List Float} → SplitOutcome p work cone a w k → SplitOutcome p work cone a' w' k' → (a ≡ a') × (w ≡ w') × (k ≡ k')
+any-two-split-outcomes-coincide s t = SplitRuns.any-two-split-outcomes-coincide s t

@@ -17,10 +17,12 @@ pub mod Lengths
 pub mod Accepted
 pub mod OldContents
 pub mod Answered
+pub mod SplitRuns
 pub mod Demands
 pub mod Outcome
 pub mod Vectors
 pub mod Matrices
+pub mod Slices
 pub mod Blocks
 pub mod Projections
 pub mod ConeProduct

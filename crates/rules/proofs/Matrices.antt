@@ -24,7 +24,7 @@ use Rattle.rules.proofs.Columns.{packedPlace-mirrored, packedPlace-insi
 
 -- ---- every entry is stored
 
-dense-inside : (rows cols r c : ℕ) → r < rows → c < cols → c * rows + r < rows * cols
+pub dense-inside : (rows cols r c : ℕ) → r < rows → c < cols → c * rows + r < rows * cols
 dense-inside rows cols r c hr hc =
     omega (arith, mul-le-mul-right rows (suc-le c cols hc), suc-mul c rows, mul-comm rows cols)
   where

@@ -16,11 +16,11 @@ use Rattle.rules.specs.Problem.{Problem, embed, blocks, lengthX, workLen
 use Rattle.rules.specs.Step.{State, xX, xY}
 use Rattle.rules.specs.Criteria.{tauOf}
 use Rattle.rules.specs.Prepare.{zeros}
-use Rattle.rules.specs.Run.{Ended, isScaled, isConeFailure, finalX, laidOut, run, Left, leftBy}
+use Rattle.rules.specs.Run.{Ended, isScaled, isConeFailure, finalX, laidOut, run, leftBy}
 use Rattle.rules.specs.declared.Refusal.{Refusal}
 use Rattle.rules.specs.declared.Refusal.the-variants.{Accepted, Refused}
 use Rattle.rules.specs.Refusals.{refusal, readProblem, turnedAway, solved}
-use Rattle.rules.specs.Demands.{workNeeded, coneNeeded, OldContentsChangeNothing, PlacesBeyondKept}
+use Rattle.rules.specs.Demands.{workNeeded, coneNeeded, OldContentsChangeNothing, PlacesBeyondKept, KeptBeyond}
 use Rattle.rules.proofs.KernelLengths.{scaled-length}
 use Rattle.rules.proofs.Lengths.{Sized, xX-length, xY-length, run-sized}
 use Rattle.rules.proofs.Accepted.{accepted-as-read}
@@ -101,13 +101,7 @@ old-contents-change-nothing p work cone work' cone' e e' =
 beyond-length : (required : ℕ) (part buffer : List Float) → length part ≡ required → required ≤ length buffer → length (part ++ drop required buffer) ≡ length buffer
 beyond-length required part buffer e h = simp (length-append, length-drop) (omega arith)
 
-record Kept (required needed : ℕ) (work cone : List Float) (l : Left) : Type 0 where
-  work-length : length (l .work) ≡ length work
-  cone-length : length (l .cone) ≡ length cone
-  work-beyond : drop required (l .work) ≡ drop required work
-  cone-beyond : drop needed (l .cone) ≡ drop needed cone
-
-left-kept : (p : Problem) (work cone : List Float) (e : Ended) → Sized p (e .state) → workLength (p .m) (p .n) ≤ length work → coneWork (blocks p) ≤ length cone → Kept (workLength (p .m) (p .n)) (coneWork (blocks p)) work cone (leftBy p work cone e)
+left-kept : (p : Problem) (work cone : List Float) (e : Ended) → Sized p (e .state) → workLength (p .m) (p .n) ≤ length work → coneWork (blocks p) ≤ length cone → KeptBeyond (workLength (p .m) (p .n)) (coneWork (blocks p)) work cone (leftBy p work cone e)
 unfolding leftBy
 left-kept p work cone e s hw hc =
     let required = workLength (p .m) (p .n) in
@@ -123,7 +117,7 @@ solved-refused : (p : Problem) (work cone : List Float) (x : Ending) → refusal
 unfolding solved
 solved-refused p work cone x e = rw e
 
-solved-kept : (p : Problem) (work cone : List Float) (r : Refusal) → refusal p (length work) (length cone) ≡ r → Kept (workNeeded p) (coneNeeded p) work cone (solved p work cone)
+solved-kept : (p : Problem) (work cone : List Float) (r : Refusal) → refusal p (length work) (length cone) ≡ r → KeptBeyond (workNeeded p) (coneNeeded p) work cone (solved p work cone)
 solved-kept p work cone Accepted e =
     let q = readProblem p in
     let fits = accepted-as-read p (length work) (length cone) e in
@@ -133,6 +127,4 @@ solved-kept p work cone (Refused x) e =
     rw (solved-refused p work cone x e) (record { work-length = refl; cone-length = refl; work-beyond = refl; cone-beyond = refl })
 
 pub places-beyond-kept : (p : Problem) (work cone : List Float) → PlacesBeyondKept p work cone
-places-beyond-kept p work cone =
-    let k = solved-kept p work cone (refusal p (length work) (length cone)) refl in
-    record { work-length = k .work-length; cone-length = k .cone-length; work-beyond = k .work-beyond; cone-beyond = k .cone-beyond }
+places-beyond-kept p work cone = solved-kept p work cone (refusal p (length work) (length cone)) refl

@@ -60,6 +60,17 @@ module _ (a e : ℕ) (new w : List Float) (new-to : length new ≡ a) (fits : a 
 pub all-put : (e : ℕ) (new w : List Float) → length w ≤ e → new ++ drop e w ≡ new
 all-put e new w h = rw (drop-of-length-le w h) (append-nil new)
 
+-- two parts, the first up to place a and the second from there up to e
+module _ (a e : ℕ) (w p : List Float) (p-length : length p ≡ a) (fits : a ≤ e) where
+  front-put : put 0 a w p ≡ p ++ drop a w
+  front-put = rw (drop-rest 0 a w (omega arith))
+
+  pub lent-rest : take (e - a) (drop a (put 0 a w p)) ≡ take (e - a) (drop a w)
+  lent-rest = rw (front-put, next-lent a e p w p-length fits)
+
+  pub put-2 : (q : List Float) → length w ≤ e → put a e (put 0 a w p) q ≡ p ++ q
+  put-2 q whole = rw (front-put, next-put a e p w p-length fits q) (all-put e (p ++ q) w whole)
+
 -- three parts, of n, m and k places
 module _ (n m k : ℕ) (w p q : List Float) (p-length : length p ≡ n) (q-length : length q ≡ m) where
   pub first-put : put 0 n w p ≡ p ++ drop n w

@@ -21,7 +21,7 @@ use Rattle.rules.specs.Run.{verdict, allowance, run, Left, leftBy}
 use Rattle.rules.specs.declared.Refusal.the-variants.{Accepted}
 use Rattle.rules.specs.Blocks.{isBadCone}
 use Rattle.rules.specs.Refusals.{Fact, _when_, First, none-applies, applies, firstOf, facts, asRefusal, refusal, numberOf, badCone, shortBuffers, workShortage, readProblem, turnedAway, leftAfter, solved, SolveOutcome}
-use Rattle.rules.specs.Demands.{holdsAt, NoneHolds, FirstToHold, NumberedFrom, numberGiven, GivenExactly, TurnedAwayExactly, step}
+use Rattle.rules.specs.Demands.{holdsAt, NoneHolds, FirstToHold, NumberedFrom, numberGiven, GivenExactly, TurnedAwayBy, TurnedAwayExactly, step}
 use Rattle.rules.proofs.Columns.{by-less}
 use Rattle.rules.proofs.Run.{ends-first}
 
@@ -120,7 +120,7 @@ refusal-is : (p : Problem) (work cone : ℕ) → refusal p work cone ≡ asRefus
 unfolding refusal
 refusal-is p work cone = refl
 
-accepted-is : (r : First Ending) → asRefusal r ≡ Accepted → r ≡ none-applies
+pub accepted-is : (r : First Ending) → asRefusal r ≡ Accepted → r ≡ none-applies
 accepted-is none-applies e = refl
 accepted-is (applies x) e =
     let z : _≡_ {A = ℕ} 0 1 = cc in
@@ -194,37 +194,39 @@ run-unnumbered p =
 
 -- ---- the whole
 
-ran-unnumbered : (p : Problem) (work cone : List Float) → numberOf (leftBy (readProblem p) work cone (run (readProblem p)) .answer .ending) ≡ 0
+pub ran-unnumbered : (p : Problem) (work cone : List Float) → numberOf (leftBy (readProblem p) work cone (run (readProblem p)) .answer .ending) ≡ 0
 unfolding leftBy
 ran-unnumbered p work cone = run-unnumbered (readProblem p)
 
-module _ (p : Problem) (work cone : List Float) where
-  abbrev rows : List (Fact Ending)
-  rows = facts p (length work) (length cone)
-
+-- what a table makes of a run that gives no number
+module _ (rows : List (Fact Ending)) (ran : Left) (work cone : List Float) where
   -- an accepted run gives no number, and a refusal its own
-  number-given : (ran : Left) → numberOf (ran .answer .ending) ≡ 0 → (r : First Ending) → numberOf (leftAfter (asRefusal r) ran work cone .answer .ending) ≡ numberGiven numberOf r
-  number-given ran n none-applies = n
-  number-given ran n (applies x) = refl
+  number-given : numberOf (ran .answer .ending) ≡ 0 → (r : First Ending) → numberOf (leftAfter (asRefusal r) ran work cone .answer .ending) ≡ numberGiven numberOf r
+  number-given n none-applies = n
+  number-given n (applies x) = refl
 
-  unchanged-by : (ran : Left) (r : First Ending) → Says numberOf 0 rows r → (i : ℕ) → FirstToHold rows i → leftAfter (asRefusal r) ran work cone ≡ turnedAway (leftAfter (asRefusal r) ran work cone .answer .ending) work cone
-  unchanged-by ran none-applies s i f = absurd (true≢false (sym (f .holds) ∙ s i))
-  unchanged-by ran (applies x) s i f = refl
+  unchanged-by : (r : First Ending) → Says numberOf 0 rows r → (i : ℕ) → FirstToHold rows i → leftAfter (asRefusal r) ran work cone ≡ turnedAway (leftAfter (asRefusal r) ran work cone .answer .ending) work cone
+  unchanged-by none-applies s i f = absurd (true≢false (sym (f .holds) ∙ s i))
+  unchanged-by (applies x) s i f = refl
 
-  solved-is : solved p work cone ≡ leftAfter (asRefusal (firstOf rows)) (leftBy (readProblem p) work cone (run (readProblem p))) work cone
+  pub turned-away-by : NumberedFrom numberOf 1 rows → numberOf (ran .answer .ending) ≡ 0 → (left : Left) → left ≡ leftAfter (asRefusal (firstOf rows)) ran work cone → TurnedAwayBy rows left work cone
+  turned-away-by n unnumbered left is =
+      let table = given-exactly numberOf rows n in
+      let number : numberOf (left .answer .ending) ≡ numberGiven numberOf (firstOf rows) = rw is (number-given unnumbered (firstOf rows)) in
+      record {
+        exactly = λ i h. (λ e. table .refuses i h .0 (sym number ∙ e), λ f. number ∙ table .refuses i h .1 f);
+        none-otherwise = λ h. number ∙ ap (numberGiven numberOf) (table .accepts .1 h);
+        changes-nothing = λ i f. rw is (unchanged-by (firstOf rows) (says numberOf 0 rows n) i f);
+      }
+
+module _ (p : Problem) (work cone : List Float) where
+  solved-is : solved p work cone ≡ leftAfter (asRefusal (firstOf (facts p (length work) (length cone)))) (leftBy (readProblem p) work cone (run (readProblem p))) work cone
   unfolding solved
   solved-is = rw (refusal-is p (length work) (length cone))
 
   pub turned-away-exactly : TurnedAwayExactly p work cone
   turned-away-exactly =
-      let ran = leftBy (readProblem p) work cone (run (readProblem p)) in
-      let table = table-given p (length work) (length cone) in
-      let number : numberOf (solved p work cone .answer .ending) ≡ numberGiven numberOf (firstOf rows) = rw solved-is (number-given ran (ran-unnumbered p work cone) (firstOf rows)) in
-      record {
-        exactly = λ i h. (λ e. table .refuses i h .0 (sym number ∙ e), λ f. number ∙ table .refuses i h .1 f);
-        none-otherwise = λ n. number ∙ ap (numberGiven numberOf) (table .accepts .1 n);
-        changes-nothing = λ i f. rw solved-is (unchanged-by ran (firstOf rows) (says numberOf 0 rows (numbered p (length work) (length cone))) i f);
-      }
+      turned-away-by (facts p (length work) (length cone)) (leftBy (readProblem p) work cone (run (readProblem p))) work cone (numbered p (length work) (length cone)) (ran-unnumbered p work cone) (solved p work cone) solved-is
 
 -- ---- the contract
 

@@ -10,7 +10,7 @@ use Rattle.rules.specs.declared.Cone.{Cone}
 use Rattle.rules.specs.declared.Cone.the-variants.{Zero, RPos, SOC, RotSOC, PSD}
 use Rattle.rules.specs.declared.Answer.{Answer}
 use Rattle.rules.specs.declared.Ending.{Ending}
-use Rattle.rules.specs.declared.Ending.the-variants.{Converged}
+use Rattle.rules.specs.declared.Ending.the-variants.{Converged, InvalidOp}
 use Rattle.rules.specs.Product.{Failure, none, block, coneWork}
 use Rattle.rules.specs.Problem.{Problem, embed, blocks, workLength}
 use Rattle.rules.specs.Step.{State, xX, xY}
@@ -21,11 +21,12 @@ use Rattle.rules.specs.declared.Norms.{Norms}
 use Rattle.rules.specs.Prepare.{prepared, preparedNorms, zeros}
 use Rattle.rules.specs.declared.Verdict.{Verdict}
 use Rattle.rules.specs.declared.Verdict.the-variants.{Ends, GoesOn}
-use Rattle.rules.specs.Run.{WholeStep, wholeStep, verdict, allowance, stateFrom, Piece, Ended, isConeFailure, laidOut, solutionX, solutionY}
+use Rattle.rules.specs.Run.{WholeStep, wholeStep, verdict, allowance, stateFrom, Piece, Ended, Left, isConeFailure, laidOut, solutionX, solutionY}
 use Rattle.rules.specs.Outcome.{Solution, times-1/tau, unscaled, all-zero, ends, onPaper}
 use Rattle.rules.specs.Helpers.{reciprocal}
 use Rattle.rules.specs.Vectors.{scaled}
 use Rattle.rules.specs.Refusals.{Fact, _when_, First, none-applies, applies, firstOf, facts, numberOf, readProblem, solved, turnedAway}
+use Rattle.rules.specs.Split.{SplitProblem, slicesFit, joinedProblem, splitFacts, splitSolved}
 
 -- ---- demand 1
 
@@ -59,11 +60,26 @@ pub record GivenExactly {R : Type 0} (number : R → ℕ) (rows : List (Fact R))
   pub refuses : (i : ℕ) → 1 ≤ i → (numberGiven number (firstOf rows) ≡ i) ↔ FirstToHold rows i
   pub accepts : (firstOf rows ≡ none-applies) ↔ NoneHolds rows
 
--- "A refusal has its number, is given exactly when its fact is the first in document 01 to hold, and changes no buffer."
-pub record TurnedAwayExactly (p : Problem) (work cone : List Float) : Type 0 where
-  pub exactly : (i : ℕ) → 1 ≤ i → (numberOf (solved p work cone .answer .ending) ≡ i) ↔ FirstToHold (facts p (length work) (length cone)) i
-  pub none-otherwise : NoneHolds (facts p (length work) (length cone)) → numberOf (solved p work cone .answer .ending) ≡ 0
-  pub changes-nothing : (i : ℕ) → FirstToHold (facts p (length work) (length cone)) i → solved p work cone ≡ turnedAway (solved p work cone .answer .ending) work cone
+-- "A refusal has its number, is given exactly when its fact is the first in document 01 to hold, and changes no buffer.": of a table's rows, and what is left
+-- of the two buffers
+pub record TurnedAwayBy (rows : List (Fact Ending)) (left : Left) (work cone : List Float) : Type 0 where
+  pub exactly : (i : ℕ) → 1 ≤ i → (numberOf (left .answer .ending) ≡ i) ↔ FirstToHold rows i
+  pub none-otherwise : NoneHolds rows → numberOf (left .answer .ending) ≡ 0
+  pub changes-nothing : (i : ℕ) → FirstToHold rows i → left ≡ turnedAway (left .answer .ending) work cone
+
+abbrev pub TurnedAwayExactly : Problem → List Float → List Float → Type 0
+TurnedAwayExactly p work cone = TurnedAwayBy (facts p (length work) (length cone)) (solved p work cone) work cone
+
+-- the same of a problem whose A stands in two slices, by its own table
+abbrev pub SplitTurnedAwayExactly : SplitProblem → List Float → List Float → Type 0
+SplitTurnedAwayExactly p work cone =
+    TurnedAwayBy (splitFacts p (length work) (length cone)) (splitSolved p work cone) work cone
+
+-- .. which comes to what the problem over the joined matrix comes to, or, where a slice's length is wrong or n1 is above n, to InvalidOp
+abbrev pub AsJoinedOrInvalid : SplitProblem → List Float → List Float → Type 0
+AsJoinedOrInvalid p work cone =
+    (splitSolved p work cone ≡ solved (joinedProblem p) work cone)
+    ⊎ ((slicesFit p ≡ false) × (splitSolved p work cone ≡ turnedAway InvalidOp work cone))
 
 -- ---- demand 2: `solve` promises `SolveOutcome` (Refusals.antt), that answer and buffers are those of `solved`
 
@@ -213,15 +229,32 @@ workNeeded p = workLength (readProblem p .m) (readProblem p .n)
 abbrev pub coneNeeded : Problem → ℕ
 coneNeeded p = coneWork (blocks (readProblem p))
 
+-- of what two runs leave: the answer, and of either buffer the part that is required
+pub record SameWhereRequired (required needed : ℕ) (one other : Left) : Type 0 where
+  pub answer : one .answer ≡ other .answer
+  pub work-required : take required (one .work) ≡ take required (other .work)
+  pub cone-required : take needed (one .cone) ≡ take needed (other .cone)
+
 -- "What the buffers held before changes none of it": two pairs of buffers, long enough for the problem
-pub record OldContentsChangeNothing (p : Problem) (work cone work' cone' : List Float) : Type 0 where
-  pub answer : solved p work cone .answer ≡ solved p work' cone' .answer
-  pub work-required : take (workNeeded p) (solved p work cone .work) ≡ take (workNeeded p) (solved p work' cone' .work)
-  pub cone-required : take (coneNeeded p) (solved p work cone .cone) ≡ take (coneNeeded p) (solved p work' cone' .cone)
+abbrev pub OldContentsChangeNothing : Problem → List Float → List Float → List Float → List Float → Type 0
+OldContentsChangeNothing p work cone work' cone' =
+    SameWhereRequired (workNeeded p) (coneNeeded p) (solved p work cone) (solved p work' cone')
+
+abbrev pub SplitOldContentsChangeNothing : SplitProblem → List Float → List Float → List Float → List Float → Type 0
+SplitOldContentsChangeNothing p work cone work' cone' =
+    SameWhereRequired (workNeeded (joinedProblem p)) (coneNeeded (joinedProblem p)) (splitSolved p work cone) (splitSolved p work' cone')
+
+-- of what is left of both buffers: as many places, and those beyond the required ones
+pub record KeptBeyond (required needed : ℕ) (work cone : List Float) (left : Left) : Type 0 where
+  pub work-length : length (left .work) ≡ length work
+  pub cone-length : length (left .cone) ≡ length cone
+  pub work-beyond : drop required (left .work) ≡ drop required work
+  pub cone-beyond : drop needed (left .cone) ≡ drop needed cone
 
 -- "places beyond it are never changed": of both buffers, with any contents and on refusal too
-pub record PlacesBeyondKept (p : Problem) (work cone : List Float) : Type 0 where
-  pub work-length : length (solved p work cone .work) ≡ length work
-  pub cone-length : length (solved p work cone .cone) ≡ length cone
-  pub work-beyond : drop (workNeeded p) (solved p work cone .work) ≡ drop (workNeeded p) work
-  pub cone-beyond : drop (coneNeeded p) (solved p work cone .cone) ≡ drop (coneNeeded p) cone
+abbrev pub PlacesBeyondKept : Problem → List Float → List Float → Type 0
+PlacesBeyondKept p work cone = KeptBeyond (workNeeded p) (coneNeeded p) work cone (solved p work cone)
+
+abbrev pub SplitPlacesBeyondKept : SplitProblem → List Float → List Float → Type 0
+SplitPlacesBeyondKept p work cone =
+    KeptBeyond (workNeeded (joinedProblem p)) (coneNeeded (joinedProblem p)) work cone (splitSolved p work cone)

@@ -17,5 +17,6 @@ pub mod Prepare
 pub mod Criteria
 pub mod Run
 pub mod Refusals
+pub mod Split
 pub mod Demands
 pub mod WorkedByHand

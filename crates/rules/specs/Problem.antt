@@ -1,7 +1,7 @@
 -- Document 01, "What the hub hands over".
 use Prim.Native.Nat.{ℕ, _+_, _*_}
 use mathlib.Core.Bool.{cond}
-use mathlib.Core.List.{List}
+use mathlib.Core.List.{List, _++_}
 use lib.Ieee.{Float, eq}
 use Rattle.rules.specs.declared.MatType.{MatType}
 use Rattle.rules.specs.declared.MatType.the-variants.{General, SymPack}
@@ -30,13 +30,22 @@ abbrev pub problemOf : ℕ → ℕ → Storage → List Float → List Float →
 problemOf m n storage c a b words par =
     record { m = m; n = n; storage = storage; c = c; a = a; b = b; words = words; par = par }
 
--- the same, its sizes and storage in one
-abbrev pub problemIn : Shape → List Float → List Float → List Float → List ℕ → SolverParam → Problem
-problemIn shape c a b words par = problemOf (shape .rows .0) (shape .cols .0) (shape .storage) c a b words par
+-- A as it is lent: in two slices, of which one may be empty
+pub record Slices : Type 0 where
+  pub first : List Float
+  pub rest : List Float
 
--- the sizes and the storage of a problem
-abbrev pub shapeOf : Problem → Shape
-shapeOf p = record { rows = record { 0 = p .m }; cols = record { 0 = p .n }; storage = p .storage }
+abbrev pub slices : List Float → List Float → Slices
+slices first rest = record { first = first; rest = rest }
+
+-- the matrix that they hold, joined
+abbrev pub joined : Slices → List Float
+joined a = a .first ++ a .rest
+
+-- the problem of these parts, its sizes and storage in one, and its matrix in two slices
+abbrev pub problemIn : Shape → List Float → Slices → List Float → List ℕ → SolverParam → Problem
+problemIn shape c a b words par =
+    problemOf (shape .rows .0) (shape .cols .0) (shape .storage) c (joined a) b words par
 
 abbrev pub matrixOf : Storage → ℕ → ℕ → MatType
 matrixOf Dense m n = General (record { 0 = m }) (record { 0 = n })
@@ -64,14 +73,14 @@ pub record Embed : Type 0 where
 abbrev pub embed : Problem → Embed
 embed p = record { m = p .m; n = p .n; t = matrix p; c = p .c; a = p .a; b = p .b }
 
-abbrev pub embedIn : Shape → List Float → List Float → List Float → Embed
+abbrev pub embedIn : Shape → List Float → Slices → List Float → Embed
 embedIn shape c a b =
     record {
       m = shape .rows .0;
       n = shape .cols .0;
       t = matrixIn shape;
       c = c;
-      a = a;
+      a = joined a;
       b = b;
     }
 

@@ -42,11 +42,13 @@ pub enum Storage {
     Packed,
 }
 
-// The sizes of a problem, and how its matrix is stored.
+// The sizes of a problem, how its matrix is stored, and how it stands in two slices: of a dense one the first holds so many columns and
+// the second the rest; a packed one stands in the first.
 pub struct Shape {
     pub rows: Rows,
     pub cols: Cols,
     pub storage: Storage,
+    pub first: Cols,
 }
 
 // The largest max_iter, and the most cone words.

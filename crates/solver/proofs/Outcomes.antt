@@ -1,10 +1,11 @@
 -- What the entry point's branches say: a problem turned away, and an accepted one as the run reads it.
 use Prim.Native.Nat.{ℕ, zero, suc, _+_, _-_, _*_, _≤_}
+use native.Mathlib.Nat.{mul-zero, sub-self}
 use native.Mathlib.Omega.{arith}
 use mathlib.Core.Path.{_≡_, refl, sym, _∙_, ap}
 use mathlib.Core.Bool.{true}
-use mathlib.Core.List.{List, _∷_}
-use borrow.Author.Tests.{le-leb}
+use mathlib.Core.List.{List, [], _∷_, _++_, append-nil}
+use borrow.Author.Tests.{le-leb, eq-eqb}
 use lib.Ieee.{Float}
 use lib.ListN.{length, take, drop, replicate}
 use lib.Seq.{length-take-le}
@@ -16,42 +17,37 @@ use Rattle.rules.specs.declared.Storage.the-variants.{Dense, Packed}
 use Rattle.rules.specs.declared.SolverParam.{SolverParam}
 use Rattle.rules.specs.Arithmetic.{+0}
 use Rattle.rules.specs.Limits.{limit}
-use Rattle.rules.specs.Matrices.{nRow, nCol}
+use Rattle.rules.specs.Matrices.{triangle, storedLength}
+use Rattle.rules.specs.Blocks.{blocksOf}
 use Rattle.rules.specs.Projections.{sweepsFit}
 use Rattle.rules.specs.Product.{coneWork}
-use Rattle.rules.specs.Problem.{Problem, asRead, blocks, matrixOf, lengthX, lengthY, problemOf}
+use Rattle.rules.specs.Problem.{Problem, Slices, slices, asRead, blocks, matrixOf, lengthX, lengthY, problemOf, problemIn}
 use Rattle.rules.specs.Prepare.{zeros}
 use Rattle.rules.specs.Run.{leftBy}
 use Rattle.rules.specs.declared.Refusal.{Refusal}
 use Rattle.rules.specs.declared.Refusal.the-variants.{Accepted, Refused}
 use Rattle.rules.specs.Refusals.{refusal, isPacked, readProblem, turnedAway, solved, SolveOutcome}
+use Rattle.rules.specs.Split.{SplitProblem, splitOf, slicesFit, joinedProblem, splitRefusal, splitSolved, SplitOutcome}
+use Rattle.rules.proofs.SplitRuns.{same-refusal, split-runs-as-joined, slices-fit-if-accepted}
 use Rattle.rules.proofs.Accepted.{AllFits, accepted-fits}
 use Rattle.rules.proofs.OldContents.{solved-accepted}
 use Rattle.rules.proofs.Parts.{put, from-start}
-use Rattle.solver.specs.Solve.{Taken, LeftAs, Lent, AtZero, RanIn}
+use Rattle.shape.specs.Fitting.{partsIn, partsFit}
+use Rattle.shape.proofs.Fitting.{sized-of}
+use Rattle.solver.specs.Solve.{turnedAwayBy, Taken, LeftAs, Lent, AtZero, RanIn}
 
 solved-refused : (p : Problem) (work cone : List Float) (e : Ending) → refusal p (length work) (length cone) ≡ Refused e → solved p work cone ≡ turnedAway e work cone
 unfolding solved
 solved-refused p work cone e h = rw h
 
-pub turned-away : (p : Problem) (work cone : List Float) (e : Ending) (r : Refusal) → r ≡ refusal p (length work) (length cone) → r ≡ Refused e → SolveOutcome p work cone (record { ending = e; steps = 0; rotations = 0 }) work cone
-turned-away p work cone e r h is =
+pub turned-away : (p : Problem) (work cone : List Float) (e : Ending) (r : Refusal) → r ≡ refusal p (length work) (length cone) → r ≡ Refused e → (answer : Answer) → answer ≡ turnedAwayBy e → SolveOutcome p work cone answer work cone
+turned-away p work cone e r h is answer told =
     let s = solved-refused p work cone e (sym (rw is at h)) in
-    record { answered = rw s; work-left = rw s; cone-left = rw s }
+    record { answered = rw s told; work-left = rw s; cone-left = rw s }
 
-matrix-rows : (s : Storage) (m n : ℕ) → nRow (matrixOf s m n) ≡ m
-matrix-rows Dense m n = refl
-matrix-rows Packed m n = refl
+-- ---- an accepted problem, as the run reads it
 
-matrix-cols : (s : Storage) (m n : ℕ) → (isPacked s ≡ true → m ≡ n) → nCol (matrixOf s m n) ≡ n
-matrix-cols Dense m n h = refl
-matrix-cols Packed m n h = h refl
-
-module _ (m n : ℕ) (storage : Storage) (c a b : List Float) (words : List ℕ) (par : SolverParam) (work cone : List Float) where
-  read-is : readProblem (problemOf m n storage c a b words par) ≡ problemOf m n storage c a b words (asRead par)
-  unfolding readProblem
-  read-is = refl
-
+module _ (par : SolverParam) where
   steps-read : asRead par .«max_iter» ≡ par .«max_iter»
   unfolding asRead
   steps-read = refl
@@ -60,48 +56,97 @@ module _ (m n : ℕ) (storage : Storage) (c a b : List Float) (words : List ℕ)
   unfolding asRead
   sweeps-read = refl
 
-  fit-sweeps : AllFits (problemOf m n storage c a b words par) (length work) (length cone) → sweepsFit par ≡ true
-  fit-sweeps f = rw (le-leb _ _ (f .some-sweep), le-leb _ _ (f .sweeps-within))
+read-is : (m n : ℕ) (storage : Storage) (c a b : List Float) (words : List ℕ) (par : SolverParam) → readProblem (problemOf m n storage c a b words par) ≡ problemOf m n storage c a b words (asRead par)
+unfolding readProblem
+read-is m n storage c a b words par = refl
 
-  pub taken : (r : Refusal) → r ≡ refusal (problemOf m n storage c a b words par) (length work) (length cone) → r ≡ Accepted → (read : SolverParam) → read ≡ asRead par → Taken (problemOf m n storage c a b words read) work cone
-  taken r h is read e =
-      let f = accepted-fits (problemOf m n storage c a b words par) (length work) (length cone) (sym (rw is at h)) in
+-- what the tests of the problem over the joined matrix leave to ask: that A's slices fit
+module _ (shape : Shape) (c : List Float) (a : Slices) (b : List Float) (words : List ℕ) (par : SolverParam) (work cone : List Float) where
+  taken-as-read : AllFits (problemIn shape c a b words par) (length work) (length cone) → partsFit shape a ≡ true → (read : SolverParam) → read ≡ asRead par → Taken shape c a b words read work cone
+  taken-as-read f parts read e =
+      let sweeps : sweepsFit par ≡ true = rw (le-leb _ _ (f .some-sweep), le-leb _ _ (f .sweeps-within)) in
       rw e
       (record {
         ready = record {
-          operators = record {
-            m-within = f .m-within;
-            n-within = f .n-within;
-            matrix = record {
-              rows = matrix-rows storage m n;
-              cols = matrix-cols storage m n (f .square);
-              stored = record { rows = rw (matrix-rows storage m n) (f .m-within); cols = rw (matrix-cols storage m n (f .square)) (f .n-within); all = f .fitting .a };
-            };
-            c-length = f .fitting .c;
-            b-length = f .fitting .b;
-          };
+          operators = record { m-within = f .m-within; n-within = f .n-within; matrix = sized-of shape a parts; c-length = f .fitting .c; b-length = f .fitting .b };
           readable = f .no-bad-word;
           places = f .fitting .blocks;
-          sweeps = sweeps-read ∙ fit-sweeps f;
+          sweeps = sweeps-read par ∙ sweeps;
         };
-        steps = rw steps-read (f .steps-within);
+        steps = rw (steps-read par) (f .steps-within);
         work-long = f .long-work;
         cone-long = f .long-cone;
       })
 
-  pub went-through : (r : Refusal) → r ≡ refusal (problemOf m n storage c a b words par) (length work) (length cone) → r ≡ Accepted → (read : SolverParam) → read ≡ asRead par → (answer : Answer) (work' cone' : List Float) → LeftAs (problemOf m n storage c a b words read) work cone answer work' cone' → SolveOutcome (problemOf m n storage c a b words par) work cone answer work' cone'
+-- ---- A in one slice, and nothing in the second
+
+module _ (m n : ℕ) (storage : Storage) (c a b : List Float) (words : List ℕ) (par : SolverParam) (work cone : List Float) where
+  abbrev whole-shape : Shape
+  whole-shape = record { rows = record { 0 = m }; cols = record { 0 = n }; storage = storage; first = record { 0 = n } }
+
+  whole-parts : (storage : Storage) → m ≤ limit → n ≤ limit → length a ≡ storedLength (matrixOf storage m n) → (isPacked storage ≡ true → m ≡ n) → partsIn storage m n n (slices a []) ≡ true
+  whole-parts Dense hm hn long square =
+      let none : m * (n - n) ≡ 0 = rw (sub-self n) (mul-zero m) in
+      rw (le-leb m limit hm, le-leb n limit hn, le-leb n n (omega arith), eq-eqb (length a) (m * n) long, none)
+  whole-parts Packed hm hn long square = rw (eq-eqb m n (square refl), le-leb m limit hm, eq-eqb (length a) (triangle m) long)
+
+  pub taken : (r : Refusal) → r ≡ refusal (problemOf m n storage c a b words par) (length work) (length cone) → r ≡ Accepted → (read : SolverParam) → read ≡ asRead par → Taken whole-shape c (slices a []) b words read work cone
+  taken r h is read e =
+      let f = accepted-fits (problemOf m n storage c a b words par) (length work) (length cone) (sym (rw is at h)) in
+      taken-as-read whole-shape c (slices a []) b words par work cone (rw (append-nil a) f) (whole-parts storage (f .m-within) (f .n-within) (f .fitting .a) (f .square)) read e
+
+  pub went-through : (r : Refusal) → r ≡ refusal (problemOf m n storage c a b words par) (length work) (length cone) → r ≡ Accepted → (read : SolverParam) → read ≡ asRead par → (answer : Answer) (work' cone' : List Float) → LeftAs (problemIn whole-shape c (slices a []) b words read) work cone answer work' cone' → SolveOutcome (problemOf m n storage c a b words par) work cone answer work' cone'
   went-through r h is read e answer work' cone' l =
       let s = solved-accepted (problemOf m n storage c a b words par) work cone (sym (rw is at h)) in
-      let k = rw e at l in
-      record { answered = rw (s, read-is) (k .answered); work-left = rw (s, read-is) (k .work-left); cone-left = rw (s, read-is) (k .cone-left) }
+      let k = rw (append-nil a, e) at l in
+      let same = read-is m n storage c a b words par in
+      record { answered = rw (s, same) (k .answered); work-left = rw (s, same) (k .work-left); cone-left = rw (s, same) (k .cone-left) }
+
+-- ---- dense A in two slices
+
+split-refused : (p : SplitProblem) (work cone : List Float) (e : Ending) → splitRefusal p (length work) (length cone) ≡ Refused e → splitSolved p work cone ≡ turnedAway e work cone
+unfolding splitSolved
+split-refused p work cone e h = rw h
+
+pub split-turned-away : (p : SplitProblem) (work cone : List Float) (e : Ending) (r : Refusal) → r ≡ splitRefusal p (length work) (length cone) → r ≡ Refused e → (answer : Answer) → answer ≡ turnedAwayBy e → SplitOutcome p work cone answer work cone
+split-turned-away p work cone e r h is answer told =
+    let s = split-refused p work cone e (sym (rw is at h)) in
+    record { answered = rw s told; work-left = rw s; cone-left = rw s }
+
+module _ (m n n1 : ℕ) (c factory lesson b : List Float) (words : List ℕ) (par : SolverParam) (work cone : List Float) where
+  abbrev split-shape : Shape
+  split-shape = record { rows = record { 0 = m }; cols = record { 0 = n }; storage = Dense; first = record { 0 = n1 } }
+
+  abbrev p : SplitProblem
+  p = splitOf m n n1 c factory lesson b words par
+
+  module _ (r : Refusal) (h : r ≡ splitRefusal p (length work) (length cone)) (is : r ≡ Accepted) where
+    fitting : slicesFit p ≡ true
+    fitting = slices-fit-if-accepted p work cone (sym (rw is at h))
+
+    accepted-joined : refusal (joinedProblem p) (length work) (length cone) ≡ Accepted
+    accepted-joined = sym (same-refusal p (length work) (length cone) fitting) ∙ sym (rw is at h)
+
+    pub split-taken : (read : SolverParam) → read ≡ asRead par → Taken split-shape c (slices factory lesson) b words read work cone
+    split-taken read e =
+        let f = accepted-fits (joinedProblem p) (length work) (length cone) accepted-joined in
+        let parts : partsFit split-shape (slices factory lesson) ≡ true = rw (le-leb m limit (f .m-within), le-leb n limit (f .n-within)) fitting in
+        taken-as-read split-shape c (slices factory lesson) b words par work cone f parts read e
+
+    pub split-went-through : (read : SolverParam) → read ≡ asRead par → (answer : Answer) (work' cone' : List Float) → LeftAs (problemIn split-shape c (slices factory lesson) b words read) work cone answer work' cone' → SplitOutcome p work cone answer work' cone'
+    split-went-through read e answer work' cone' l =
+        let s = split-runs-as-joined p work cone fitting ∙ solved-accepted (joinedProblem p) work cone accepted-joined in
+        let k = rw e at l in
+        let same = read-is m n Dense c (factory ++ lesson) b words par in
+        record { answered = rw (s, same) (k .answered); work-left = rw (s, same) (k .work-left); cone-left = rw (s, same) (k .cone-left) }
 
 -- ---- an accepted run with vectors of its own
 
 part-is : (needed : ℕ) (cone : List Float) → needed ≤ length cone → length (take (needed - 0) (drop 0 cone)) ≡ needed
 part-is needed cone h = rw (from-start needed) (length-take-le needed cone h)
 
-pub lent : (p : Problem) (work cone : List Float) → Taken p work cone → (needed : ℕ) → needed ≡ coneWork (blocks p) → Lent p work (take (needed - 0) (drop 0 cone))
-lent p work cone t needed e =
+pub lent : (shape : Shape) (c : List Float) (a : Slices) (b : List Float) (words : List ℕ) (par : SolverParam) (work cone : List Float) → Taken shape c a b words par work cone → (needed : ℕ) → needed ≡ coneWork (blocksOf words) → Lent shape c a b words par work (take (needed - 0) (drop 0 cone))
+lent shape c a b words par work cone t needed e =
     let h : needed ≤ length cone = rw e (t .cone-long) in
     record { ready = t .ready; steps = t .steps; work-long = t .work-long; cone-long = part-is needed cone h ∙ e }
 

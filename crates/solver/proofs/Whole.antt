@@ -11,7 +11,7 @@ use Rattle.rules.specs.declared.Answer.{Answer}
 use Rattle.rules.specs.Arithmetic.{+0}
 use Rattle.rules.specs.Blocks.{hasBadWord, blocksOf, totalPlaces, isBadCone}
 use Rattle.rules.specs.Product.{coneWork}
-use Rattle.rules.specs.Problem.{Problem, embed, blocks, lengthX, lengthY, workLength}
+use Rattle.rules.specs.Problem.{Problem, Slices, embed, problemIn, blocks, lengthX, lengthY, workLength}
 use Rattle.rules.specs.declared.Ending.{Ending}
 use Rattle.rules.specs.declared.Ending.the-variants.{ConeFailure}
 use Rattle.rules.specs.declared.Verdict.{Verdict}
@@ -24,11 +24,10 @@ use Rattle.rules.specs.Run.{Piece, endedBy, run, laidOut, isConeFailure}
 use Rattle.rules.proofs.Run.{run-is}
 use Rattle.rules.proofs.Lengths.{prepared-sized}
 use Rattle.shape.specs.Fitting.{LikeX, LikeY}
-use Rattle.rules.specs.Problem.{problemIn, shapeOf}
 use Rattle.precond.specs.Precond.{Covers}
 use Rattle.prepare.specs.declared.Prepared.{Prepared}
 use Rattle.prepare.specs.declared.Prepared.the-variants.{Done, No}
-use Rattle.prepare.specs.Prepare.{PreparedOutcome}
+use Rattle.prepare.specs.Prepare.{prepareFits, PreparedOutcome}
 use Rattle.prepare.proofs.Outcomes.{PreparedBy, prepared-where-fits}
 use Rattle.step.specs.Update.{stateOf, stepFits, StepReady}
 use Rattle.iterate.specs.declared.Iterated.{Iterated}
@@ -65,38 +64,38 @@ module _ {shape : Shape} {x y dpTau dpSigma rx tx : List Float} (z : AtZero shap
   zero-tx : LikeX shape tx
   zero-tx = record { is = rw (z .tx-zero) (length-replicate (lengthX (shape .rows .0) (shape .cols .0)) +0) }
 
-cleared-long : {p : Problem} {work cone cone' : List Float} → Lent p work cone → cone' ≡ zeros (length cone) → length cone' ≡ coneWork (blocks p)
-cleared-long {p} {work} {cone} {cone'} l e = rw e (length-replicate (length cone) +0) ∙ l .cone-long
+cleared-long : {shape : Shape} {c : List Float} {a : Slices} {b : List Float} {words : List ℕ} {par : SolverParam} {work cone cone' : List Float} → Lent shape c a b words par work cone → cone' ≡ zeros (length cone) → length cone' ≡ coneWork (blocksOf words)
+cleared-long {cone = cone} l e = rw e (length-replicate (length cone) +0) ∙ l .cone-long
 
 -- ---- before the first step
 
-covers : {p : Problem} → Ready p → Covers (shapeOf p) (p .words)
-covers {p} r = record { is = good }
-  where
-    good : isBadCone (p .words) (p .m) ≡ false
-    good = good-list (p .words) (p .m) (r .readable) (r .places)
+covers : {shape : Shape} {c : List Float} {a : Slices} {b : List Float} {words : List ℕ} {par : SolverParam} → Ready shape c a b words par → Covers shape words
+covers {shape} {words = words} r = record { is = good-list words (shape .rows .0) (r .readable) (r .places) }
 
-prepared-is : {p : Problem} {x y dpTau dpSigma rx tx : List Float} {answer : Prepared} {x' y' dpTau' dpSigma' : List Float} → AtZero (shapeOf p) x y dpTau dpSigma rx tx → PreparedBy p x y dpTau answer x' y' dpTau' dpSigma' → (cone : List Float) → cone ≡ zeros (coneWork (blocks p)) → stateOf x' y' dpTau' dpSigma' rx tx cone ≡ prepared p
-unfolding prepared
-prepared-is z q cone e = rw (q .x-is, q .y-is, q .tau-is, q .sigma-is, z .x-zero, z .y-zero, z .tau-zero, z .rx-zero, z .tx-zero, e)
+module _ {shape : Shape} {c : List Float} (a : Slices) {b : List Float} {words : List ℕ} {par : SolverParam} {x y dpTau dpSigma rx tx : List Float} {answer : Prepared} {x' y' dpTau' dpSigma' : List Float} (z : AtZero shape x y dpTau dpSigma rx tx) (q : PreparedBy (problemIn shape c a b words par) x y dpTau answer x' y' dpTau' dpSigma') where
+  abbrev p : Problem
+  p = problemIn shape c a b words par
 
-module _ {p : Problem} {x y dpTau dpSigma rx tx : List Float} {answer : Prepared} {x' y' dpTau' dpSigma' : List Float} (z : AtZero (shapeOf p) x y dpTau dpSigma rx tx) (q : PreparedBy p x y dpTau answer x' y' dpTau' dpSigma') where
+  prepared-is : (cone : List Float) → cone ≡ zeros (coneWork (blocks p)) → stateOf x' y' dpTau' dpSigma' rx tx cone ≡ prepared p
+  unfolding prepared
+  prepared-is cone e = rw (q .x-is, q .y-is, q .tau-is, q .sigma-is, z .x-zero, z .y-zero, z .tau-zero, z .rx-zero, z .tx-zero, e)
+
   state-start : stateOf x' y' dpTau' dpSigma' rx tx (zeros (coneWork (blocks p))) ≡ prepared p
-  state-start = prepared-is z q (zeros (coneWork (blocks p))) refl
+  state-start = prepared-is (zeros (coneWork (blocks p))) refl
 
-  prepared-x : LikeX (shapeOf p) x'
+  prepared-x : LikeX shape x'
   prepared-x = record { is = (rw (← state-start) at (prepared-sized p)) .x }
 
-  prepared-y : LikeY (shapeOf p) y'
+  prepared-y : LikeY shape y'
   prepared-y = record { is = (rw (← state-start) at (prepared-sized p)) .y }
 
-  prepared-tau : LikeX (shapeOf p) dpTau'
+  prepared-tau : LikeX shape dpTau'
   prepared-tau = record { is = (rw (← state-start) at (prepared-sized p)) .dpTau }
 
-  prepared-sigma : LikeY (shapeOf p) dpSigma'
+  prepared-sigma : LikeY shape dpSigma'
   prepared-sigma = record { is = (rw (← state-start) at (prepared-sized p)) .dpSigma }
 
-  ready-to-step : {work cone cone' : List Float} → Lent p work cone → cone' ≡ zeros (length cone) → StepReady (p .par) (shapeOf p) (p .c) (p .a) (p .b) (p .words) (stateOf x' y' dpTau' dpSigma' rx tx cone')
+  ready-to-step : {work cone cone' : List Float} → Lent shape c a b words par work cone → cone' ≡ zeros (length cone) → StepReady par shape c a b words (stateOf x' y' dpTau' dpSigma' rx tx cone')
   ready-to-step l e =
       let r = l .ready in
       record {
@@ -111,9 +110,9 @@ module _ {p : Problem} {x y dpTau dpSigma rx tx : List Float} {answer : Prepared
       }
 
   -- the piece from there, with all of the allowance, is the whole run
-  whole-run : {work cone cone' : List Float} {ns : Norms} → Lent p work cone → cone' ≡ zeros (length cone) → ns ≡ norms (embed p) x → run p ≡ endedBy (pieceOf p ns 0 (p .par .«max_iter») (stateOf x' y' dpTau' dpSigma' rx tx cone'))
+  whole-run : {work cone cone' : List Float} {ns : Norms} → Lent shape c a b words par work cone → cone' ≡ zeros (length cone) → ns ≡ norms (embed p) x → run p ≡ endedBy (pieceOf p ns 0 (p .par .«max_iter») (stateOf x' y' dpTau' dpSigma' rx tx cone'))
   whole-run {cone' = cone'} {ns} l e n =
-      let from : stateOf x' y' dpTau' dpSigma' rx tx cone' ≡ prepared p = prepared-is z q cone' (e ∙ rw (l .cone-long)) in
+      let from : stateOf x' y' dpTau' dpSigma' rx tx cone' ≡ prepared p = prepared-is cone' (e ∙ rw (l .cone-long)) in
       let start : ns ≡ preparedNorms p = n ∙ rw (z .x-zero) in
       rw (from, start) (run-is p)
 
@@ -143,10 +142,10 @@ module _ {p : Problem} {e : Piece} {ran : Iterated} {answer : Answer} {x y dpTau
 
 -- ---- all of it: cleared, prepared, stepped and settled
 
-module _ {shape : Shape} {c a b : List Float} {words : List ℕ} {par : SolverParam} {x y tau sigma rx tx : List Float} {prepared-as : Prepared} {x₁ y₁ tau₁ sigma₁ work cone cone₁ : List Float} {ns : Norms} {ran : Iterated} {x₂ y₂ rx₂ tx₂ cone₂ : List Float} {answer : Answer} {fits : Bool} {x₃ work' cone' : List Float} where
-  pub run-whole : Lent (problemIn shape c a b words par) work cone → AtZero shape x y tau sigma rx tx
+module _ {shape : Shape} {c : List Float} {a : Slices} {b : List Float} {words : List ℕ} {par : SolverParam} {x y tau sigma rx tx : List Float} {prepared-as : Prepared} {x₁ y₁ tau₁ sigma₁ work cone cone₁ : List Float} {ns : Norms} {ran : Iterated} {x₂ y₂ rx₂ tx₂ cone₂ : List Float} {answer : Answer} {fits : Bool} {x₃ work' cone' : List Float} where
+  pub run-whole : Lent shape c a b words par work cone → AtZero shape x y tau sigma rx tx
       → cone₁ ≡ zeros (length cone)
-      → PreparedOutcome (problemIn shape c a b words par) x y tau sigma prepared-as x₁ y₁ tau₁ sigma₁ → ((n : Norms) → prepared-as ≡ Done n → ns ≡ n)
+      → PreparedOutcome (prepareFits shape c a b words x y tau sigma) (problemIn shape c a b words par) x y tau sigma prepared-as x₁ y₁ tau₁ sigma₁ → ((n : Norms) → prepared-as ≡ Done n → ns ≡ n)
       → IterateOutcome (stepFits par shape c a b words (stateOf x₁ y₁ tau₁ sigma₁ rx tx cone₁)) (problemIn shape c a b words par) ns 0 (par .«max_iter») (stateOf x₁ y₁ tau₁ sigma₁ rx tx cone₁) ran (stateOf x₂ y₂ tau₁ sigma₁ rx₂ tx₂ cone₂)
       → ((said : Verdict) (k q : ℕ) → ran ≡ Made said k q → answer ≡ answerBy said k q)
       → SettleOutcome (shape .rows .0) (shape .cols .0) x₂ y₂ tau₁ sigma₁ rx₂ tx₂ work (answer .ending) cone₂ fits x₃ work' cone'
@@ -155,16 +154,16 @@ module _ {shape : Shape} {c a b : List Float} {words : List ℕ} {par : SolverPa
   run-whole lent z cleared prepares norms-are steps answers settles kept-x kept-y kept-rx kept-tx kept-cone =
       let r = lent .ready in
       let q = prepared-where-fits prepares (r .operators) (covers r) (zero-x z) (zero-y z) (zero-tau z) (zero-sigma z) in
-      let i = ran-where-fits steps (ready-to-step z q lent cleared) in
-      let whole = whole-run z q lent cleared (norms-are _ (q .answer-is)) in
+      let i = ran-where-fits steps (ready-to-step a z q lent cleared) in
+      let whole = whole-run a z q lent cleared (norms-are _ (q .answer-is)) in
       ran-in whole i (answers _ _ _ (i .answer-is)) (kept-cone ∙ cleared-long lent cleared) (settled-if-fitting
       (record {
         m-within = r .operators .m-within;
         n-within = r .operators .n-within;
-        x-long = kept-x ∙ prepared-x z q .is;
-        y-long = kept-y ∙ prepared-y z q .is;
-        tau-long = prepared-tau z q .is;
-        sigma-long = prepared-sigma z q .is;
+        x-long = kept-x ∙ prepared-x a z q .is;
+        y-long = kept-y ∙ prepared-y a z q .is;
+        tau-long = prepared-tau a z q .is;
+        sigma-long = prepared-sigma a z q .is;
         rx-long = kept-rx ∙ zero-rx z .is;
         tx-long = kept-tx ∙ zero-tx z .is;
         work-long = lent .work-long;

@@ -6,33 +6,34 @@ use mathlib.Core.List.{List, _++_}
 use lib.Ieee.{Float}
 use lib.ListN.{length, drop}
 use Rattle.rules.specs.declared.Answer.{Answer}
+use Rattle.rules.specs.declared.Ending.{Ending}
 use Rattle.rules.specs.declared.Shape.{Shape}
+use Rattle.rules.specs.declared.SolverParam.{SolverParam}
 use Rattle.rules.specs.declared.Verdict.{Verdict}
 use Rattle.rules.specs.Limits.{mostSteps}
-use Rattle.rules.specs.Blocks.{hasBadWord, totalPlaces}
+use Rattle.rules.specs.Blocks.{hasBadWord, blocksOf, totalPlaces}
 use Rattle.rules.specs.Projections.{sweepsFit}
 use Rattle.rules.specs.Product.{coneWork}
-use Rattle.rules.specs.Problem.{Problem, blocks, lengthX, lengthY, workLength}
+use Rattle.rules.specs.Problem.{Problem, Slices, blocks, lengthX, lengthY, workLength}
 use Rattle.rules.specs.Prepare.{zeros}
 use Rattle.rules.specs.Run.{endingOf, Ended, run, laidOut, isConeFailure, leftBy}
 use Rattle.shape.specs.Fitting.{Fits}
-use Rattle.rules.specs.Problem.{shapeOf}
 
 -- a problem that was not turned away, as the run reads it
-pub record Ready (p : Problem) : Type 0 where
-  pub operators : Fits (shapeOf p) (p .c) (p .a) (p .b)
-  pub readable : hasBadWord (p .words) ≡ false
-  pub places : totalPlaces (blocks p) ≡ p .m
-  pub sweeps : sweepsFit (p .par) ≡ true
+pub record Ready (shape : Shape) (c : List Float) (a : Slices) (b : List Float) (words : List ℕ) (par : SolverParam) : Type 0 where
+  pub operators : Fits shape c a b
+  pub readable : hasBadWord words ≡ false
+  pub places : totalPlaces (blocksOf words) ≡ shape .rows .0
+  pub sweeps : sweepsFit par ≡ true
 
 -- ---- a run
 
 -- a problem that was accepted, with buffers that are long enough: of cone work the required part
-pub record Lent (p : Problem) (work cone : List Float) : Type 0 where
-  pub ready : Ready p
-  pub steps : p .par .«max_iter» ≤ mostSteps
-  pub work-long : workLength (p .m) (p .n) ≤ length work
-  pub cone-long : length cone ≡ coneWork (blocks p)
+pub record Lent (shape : Shape) (c : List Float) (a : Slices) (b : List Float) (words : List ℕ) (par : SolverParam) (work cone : List Float) : Type 0 where
+  pub ready : Ready shape c a b words par
+  pub steps : par .«max_iter» ≤ mostSteps
+  pub work-long : workLength (shape .rows .0) (shape .cols .0) ≤ length work
+  pub cone-long : length cone ≡ coneWork (blocksOf words)
 
 -- the six vectors as a run finds them
 pub record AtZero (shape : Shape) (x y dpTau dpSigma rx tx : List Float) : Type 0 where
@@ -42,6 +43,10 @@ pub record AtZero (shape : Shape) (x y dpTau dpSigma rx tx : List Float) : Type 
   pub sigma-zero : dpSigma ≡ zeros (lengthY (shape .rows .0) (shape .cols .0))
   pub rx-zero : rx ≡ zeros (lengthX (shape .rows .0) (shape .cols .0))
   pub tx-zero : tx ≡ zeros (lengthX (shape .rows .0) (shape .cols .0))
+
+-- the answer to a problem that is turned away
+abbrev pub turnedAwayBy : Ending → Answer
+turnedAwayBy e = record { ending = e; steps = 0; rotations = 0 }
 
 abbrev pub answerOf : Ended → Answer
 answerOf e = record { ending = e .ending; steps = e .steps; rotations = e .rotations }
@@ -57,11 +62,11 @@ pub record RanIn (p : Problem) (work : List Float) (answer : Answer) (work' cone
   pub cone-is : cone' ≡ cond (isConeFailure (run p .ending)) (zeros (coneWork (blocks p))) (run p .state .cone)
 
 -- a problem that was accepted, with buffers that are long enough
-pub record Taken (p : Problem) (work cone : List Float) : Type 0 where
-  pub ready : Ready p
-  pub steps : p .par .«max_iter» ≤ mostSteps
-  pub work-long : workLength (p .m) (p .n) ≤ length work
-  pub cone-long : coneWork (blocks p) ≤ length cone
+pub record Taken (shape : Shape) (c : List Float) (a : Slices) (b : List Float) (words : List ℕ) (par : SolverParam) (work cone : List Float) : Type 0 where
+  pub ready : Ready shape c a b words par
+  pub steps : par .«max_iter» ≤ mostSteps
+  pub work-long : workLength (shape .rows .0) (shape .cols .0) ≤ length work
+  pub cone-long : coneWork (blocksOf words) ≤ length cone
 
 -- what an accepted run leaves, by the rule
 pub record LeftAs (p : Problem) (work cone : List Float) (answer : Answer) (work' cone' : List Float) : Type 0 where

@@ -1,16 +1,19 @@
-// The entry point, which checks for itself, and an accepted run with vectors of its own.
+// The entry points, which check for themselves, and an accepted run with vectors of its own.
 use crate::solving;
 use rules::Answer;
 use rules::Cols;
+use rules::Ending;
 use rules::LIMIT;
 use rules::Refusal;
 use rules::Rows;
 use rules::Shape;
 use rules::SolverParam;
 use rules::Storage;
+ghost use mathlib.Core.Path.{_≡_};
 ghost use Rattle.rules.specs.Refusals.{SolveOutcome};
-ghost use Rattle.rules.specs.Problem.{problemOf, problemIn};
-ghost use Rattle.solver.specs.Solve.{Taken, LeftAs};
+ghost use Rattle.rules.specs.Problem.{slices, problemOf, problemIn};
+ghost use Rattle.rules.specs.Split.{splitOf, SplitOutcome};
+ghost use Rattle.solver.specs.Solve.{turnedAwayBy, Taken, LeftAs};
 
 // The longest x and the longest y.
 const LONG_X: usize = 3 * LIMIT + 1;
@@ -50,22 +53,20 @@ pub fn solve(
         cone_work.len(),
     );
     match found {
-        Refusal::Refused(e) => Answer {
-            ending: e,
-            steps: 0,
-            rotations: 0,
-        },
+        Refusal::Refused(e) => turned_away(e),
         Refusal::Accepted => {
             let shape = Shape {
                 rows,
                 cols,
                 storage,
+                first: cols,
             };
             accepted(
                 checks::read_eps(par),
                 shape,
                 c,
                 a,
+                &a[..0],
                 b,
                 words,
                 work,
@@ -75,20 +76,91 @@ pub fn solve(
     }
 }
 
-// The six vectors are held apart, since two parts of one lent slice can't be lent at once.
-fn accepted(
+// Runs a problem whose dense A stands in two slices, the first columns in one and the rest in the other, or turns it away.
+pub fn solve_split<'a>(
     par: SolverParam,
-    shape: Shape,
+    rows: Rows,
+    cols: Cols,
+    first: Cols,
     c: &[f64],
-    a: &[f64],
+    factory: &'a [f64],
+    lesson: &'a [f64],
     b: &[f64],
     words: &[u16],
     work: &mut [f64],
     cone_work: &mut [f64],
 ) -> Answer
-    requires { ⌜ Taken (problemIn shape (now c) (now a) (now b) (now words) par) (now work) (now «cone_work») ⌝ }
     ensures { λ r. ⌜
-        LeftAs (problemIn shape (now (c .entry)) (now (a .entry)) (now (b .entry)) (now (words .entry)) par)
+        SplitOutcome
+        (splitOf (rows .0) (cols .0) (first .0) (now (c .entry)) (now (factory .entry)) (now (lesson .entry))
+        (now (b .entry)) (now (words .entry)) par)
+        (now (work .entry)) (now («cone_work» .entry)) r (now (work .exit)) (now («cone_work» .exit))
+        ⌝ }
+{
+    let found = checks::check_split(
+        par,
+        rows,
+        cols,
+        first,
+        c,
+        factory,
+        lesson,
+        b,
+        words,
+        work.len(),
+        cone_work.len(),
+    );
+    match found {
+        Refusal::Refused(e) => turned_away(e),
+        Refusal::Accepted => {
+            let shape = Shape {
+                rows,
+                cols,
+                storage: Storage::Dense,
+                first,
+            };
+            accepted(
+                checks::read_eps(par),
+                shape,
+                c,
+                factory,
+                lesson,
+                b,
+                words,
+                work,
+                cone_work,
+            )
+        }
+    }
+}
+
+// The answer to a problem that is turned away: no step was taken.
+fn turned_away(e: Ending) -> Answer
+    ensures { λ r. ⌜ r ≡ turnedAwayBy e ⌝ }
+{
+    Answer {
+        ending: e,
+        steps: 0,
+        rotations: 0,
+    }
+}
+
+// The six vectors are held apart, since two parts of one lent slice can't be lent at once.
+fn accepted<'a>(
+    par: SolverParam,
+    shape: Shape,
+    c: &[f64],
+    a1: &'a [f64],
+    a2: &'a [f64],
+    b: &[f64],
+    words: &[u16],
+    work: &mut [f64],
+    cone_work: &mut [f64],
+) -> Answer
+    requires { ⌜ Taken shape (now c) (slices (now a1) (now a2)) (now b) (now words) par (now work) (now «cone_work») ⌝ }
+    ensures { λ r. ⌜
+        LeftAs (problemIn shape (now (c .entry)) (slices (now (a1 .entry)) (now (a2 .entry)))
+        (now (b .entry)) (now (words .entry)) par)
         (now (work .entry)) (now («cone_work» .entry)) r (now (work .exit)) (now («cone_work» .exit))
         ⌝ }
 {
@@ -107,7 +179,8 @@ fn accepted(
         par,
         shape,
         c,
-        a,
+        a1,
+        a2,
         b,
         words,
         &mut x[0..nx],

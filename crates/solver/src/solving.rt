@@ -11,17 +11,18 @@ ghost use Prim.Native.Nat.{ℕ};
 ghost use mathlib.Core.Path.{_≡_};
 ghost use Rattle.rules.specs.declared.Norms.{Norms};
 ghost use Rattle.rules.specs.declared.Verdict.{Verdict};
-ghost use Rattle.rules.specs.Problem.{problemIn};
+ghost use Rattle.rules.specs.Problem.{slices, problemIn};
 ghost use Rattle.prepare.specs.declared.Prepared.the-variants.{Done};
 ghost use Rattle.iterate.specs.declared.Iterated.the-variants.{Made};
 ghost use Rattle.solver.specs.Solve.{Lent, AtZero, answerBy, RanIn};
 
 // The whole run, with its six vectors at zero.
-pub(crate) fn run_in(
+pub(crate) fn run_in<'a>(
     par: SolverParam,
     shape: Shape,
     c: &[f64],
-    a: &[f64],
+    a1: &'a [f64],
+    a2: &'a [f64],
     b: &[f64],
     words: &[u16],
     x: &mut [f64],
@@ -33,22 +34,24 @@ pub(crate) fn run_in(
     work: &mut [f64],
     cone_work: &mut [f64],
 ) -> Answer
-    requires { ⌜ Lent (problemIn shape (now c) (now a) (now b) (now words) par) (now work) (now «cone_work») ⌝ }
+    requires { ⌜ Lent shape (now c) (slices (now a1) (now a2)) (now b) (now words) par (now work) (now «cone_work») ⌝ }
     requires { ⌜ AtZero shape (now x) (now y) (now «dp_tau») (now «dp_sigma») (now rx) (now tx) ⌝ }
     ensures { λ r. ⌜
-        RanIn (problemIn shape (now (c .entry)) (now (a .entry)) (now (b .entry)) (now (words .entry)) par)
+        RanIn (problemIn shape (now (c .entry)) (slices (now (a1 .entry)) (now (a2 .entry))) (now (b .entry))
+        (now (words .entry)) par)
         (now (work .entry)) r (now (work .exit)) (now («cone_work» .exit))
         ⌝ }
 {
     linalg::clear(cone_work);
-    let prepared = prepare::prepare(par, shape, c, a, b, words, x, y, dp_tau, dp_sigma);
+    let prepared = prepare::prepare(par, shape, c, a1, a2, b, words, x, y, dp_tau, dp_sigma);
     let norms = norms_of(prepared);
     let given = par.max_iter as u32;
     let ran = iterate::iterate(
         par,
         shape,
         c,
-        a,
+        a1,
+        a2,
         b,
         words,
         norms,

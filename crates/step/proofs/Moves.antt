@@ -11,7 +11,7 @@ use Rattle.rules.specs.declared.Shape.{Shape}
 use Rattle.rules.specs.Helpers.{one, smaller}
 use Rattle.rules.specs.Arithmetic.{_-ᶠ_, +0, at}
 use Rattle.rules.specs.Outcome.{Outcome}
-use Rattle.rules.specs.Problem.{embedIn, lengthY}
+use Rattle.rules.specs.Problem.{Slices, embedIn, lengthY}
 use Rattle.rules.specs.Step.{opK, transOpK}
 use Rattle.rules.specs.Vectors.{sameLength, added, transformedDi}
 use Rattle.rules.proofs.Kernels.{add-ruled}
@@ -35,7 +35,7 @@ module _ (e : ℕ) (w ys : List Float) (inside : e ≤ length w) (as-many : leng
 
 -- ---- what is left by the calls of a move, whose sizes fit, is the moved vectors
 
-module _ {shape : Shape} {c a b x y dpTau rx tx : List Float} {copied transed moved : Bool} {rx₁ tx₁ x₁ : List Float} where
+module _ {shape : Shape} {c : List Float} {a : Slices} {b x y dpTau rx tx : List Float} {copied transed moved : Bool} {rx₁ tx₁ x₁ : List Float} where
   pub x-moved : CanMoveX shape c a b x y dpTau rx tx
       → Outcome (sameLength x rx) x rx copied rx₁
       → Outcome (embedFits shape c a b tx y) (transOpK (embedIn shape c a b) (neg one) y +0 tx) tx transed tx₁ → length tx₁ ≡ length tx
@@ -50,7 +50,7 @@ module _ {shape : Shape} {c a b x y dpTau rx tx : List Float} {copied transed mo
 abbrev frontEnd : Shape → ℕ
 frontEnd shape = lengthY (shape .rows .0) (shape .cols .0)
 
-module _ {shape : Shape} {c a b x y dpSigma rx tx : List Float} {summed opped moved : Bool} {rx₁ ty y₁ : List Float} {last : Float} where
+module _ {shape : Shape} {c : List Float} {a : Slices} {b x y dpSigma rx tx : List Float} {summed opped moved : Bool} {rx₁ ty y₁ : List Float} {last : Float} where
   pub y-moved : CanMoveY shape c a b x y dpSigma rx tx
       → Outcome (sameLength x rx) (added (neg one -ᶠ one) x rx) rx summed rx₁ → length rx₁ ≡ length rx
       → Outcome (embedFits shape c a b rx₁ (take (frontEnd shape - 0) (drop 0 tx))) (opK (embedIn shape c a b) (neg one) rx₁ +0 (take (frontEnd shape - 0) (drop 0 tx))) (take (frontEnd shape - 0) (drop 0 tx)) opped ty → length ty ≡ length (take (frontEnd shape - 0) (drop 0 tx))

@@ -11,7 +11,7 @@ use Rattle.rules.specs.declared.Product.the-variants.{No}
 use Rattle.rules.specs.declared.Shape.{Shape}
 use Rattle.rules.specs.declared.SolverParam.{SolverParam}
 use Rattle.rules.specs.Product.{lengthsFit}
-use Rattle.rules.specs.Problem.{Problem, problemIn}
+use Rattle.rules.specs.Problem.{Slices, Problem, problemIn}
 use Rattle.rules.specs.Step.{State}
 use Rattle.rules.proofs.Matrices.{both-true}
 use Rattle.shape.specs.Fitting.{operatorsFit, fitsX, fitsY, Fits, LikeX, LikeY}
@@ -21,7 +21,7 @@ use Rattle.project.proofs.Ready.{cones-fit, cones-ready}
 
 -- ---- all of it
 
-step-ready : (par : SolverParam) (shape : Shape) (c a b : List Float) (words : List ℕ) (s : State) → vectorsFit shape (s .x) (s .y) (s .dpTau) (s .dpSigma) (s .rx) (s .tx) ≡ true → operatorsFit shape c a b ≡ true → lengthsFit par words (shape .rows .0) (length (s .cone)) ≡ true → StepReady par shape c a b words s
+step-ready : (par : SolverParam) (shape : Shape) (c : List Float) (a : Slices) (b : List Float) (words : List ℕ) (s : State) → vectorsFit shape (s .x) (s .y) (s .dpTau) (s .dpSigma) (s .rx) (s .tx) ≡ true → operatorsFit shape c a b ≡ true → lengthsFit par words (shape .rows .0) (length (s .cone)) ≡ true → StepReady par shape c a b words s
 step-ready par shape c a b words s h o l =
     let tx = both-true (fitsX shape (s .x) && fitsY shape (s .y) && fitsX shape (s .dpTau) && fitsY shape (s .dpSigma) && fitsX shape (s .rx)) (fitsX shape (s .tx)) h in
     let rx = both-true (fitsX shape (s .x) && fitsY shape (s .y) && fitsX shape (s .dpTau) && fitsY shape (s .dpSigma)) (fitsX shape (s .rx)) (tx .0) in
@@ -40,13 +40,13 @@ step-ready par shape c a b words s h o l =
       tx-like = like-x shape (s .tx) (tx .1);
     }
 
-pub fits-ready : (par : SolverParam) (shape : Shape) (c a b : List Float) (words : List ℕ) (s : State) → stepFits par shape c a b words s ≡ true → StepReady par shape c a b words s
+pub fits-ready : (par : SolverParam) (shape : Shape) (c : List Float) (a : Slices) (b : List Float) (words : List ℕ) (s : State) → stepFits par shape c a b words s ≡ true → StepReady par shape c a b words s
 fits-ready par shape c a b words s h =
     let p = both-true (vectorsFit shape (s .x) (s .y) (s .dpTau) (s .dpSigma) (s .rx) (s .tx) && operatorsFit shape c a b) (lengthsFit par words (shape .rows .0) (length (s .cone))) h in
     let q = both-true (vectorsFit shape (s .x) (s .y) (s .dpTau) (s .dpSigma) (s .rx) (s .tx)) (operatorsFit shape c a b) (p .0) in
     step-ready par shape c a b words s (q .0) (q .1) (p .1)
 
-pub step-fits : {par : SolverParam} {shape : Shape} {c a b : List Float} {words : List ℕ} {s : State} → StepReady par shape c a b words s → stepFits par shape c a b words s ≡ true
+pub step-fits : {par : SolverParam} {shape : Shape} {c : List Float} {a : Slices} {b : List Float} {words : List ℕ} {s : State} → StepReady par shape c a b words s → stepFits par shape c a b words s ≡ true
 step-fits r =
     let w = sizes-within (r .operators) in
     rw (x-fits w (r .x-like), y-fits w (r .y-like), x-fits w (r .tau-like), y-fits w (r .sigma-like), x-fits w (r .rx-like), x-fits w (r .tx-like), operators-fit (r .operators)) (cones-fit (r .cones))
@@ -69,7 +69,7 @@ module _ {fits : Bool} {p : Problem} {s : State} where
 
 -- ---- the outcome by the three tests, asked in turn: v of the vectors, o of the operators, l of the cone list and its work
 
-module _ (par : SolverParam) (shape : Shape) (c a b : List Float) (words : List ℕ) (s : State) {v : Bool} (v-is : v ≡ vectorsFit shape (s .x) (s .y) (s .dpTau) (s .dpSigma) (s .rx) (s .tx)) where
+module _ (par : SolverParam) (shape : Shape) (c : List Float) (a : Slices) (b : List Float) (words : List ℕ) (s : State) {v : Bool} (v-is : v ≡ vectorsFit shape (s .x) (s .y) (s .dpTau) (s .dpSigma) (s .rx) (s .tx)) where
   -- the first that fails refuses the step
   pub vectors-refused : not v ≡ true → StepOutcome (stepFits par shape c a b words s) (problemIn shape c a b words par) s No s
   vectors-refused h = step-refused (rw (sym v-is ∙ not-true v h))

@@ -13,7 +13,7 @@ use Rattle.rules.specs.Helpers.{one, smaller}
 use Rattle.rules.specs.Arithmetic.{+0, at}
 use Rattle.rules.specs.Vectors.{transformedDi}
 use Rattle.rules.specs.Product.{none, block, productAnswer, ProductOutcome}
-use Rattle.rules.specs.Problem.{Problem, embed, lengthY, problemIn, embedIn}
+use Rattle.rules.specs.Problem.{Slices, Problem, embed, lengthY, problemIn, embedIn}
 use Rattle.rules.specs.Step.{State, transOpK, movedX, projected, tauTaken, movedY, updated}
 use Rattle.step.specs.Moves.{XMoved, YMoved, takenIn, nextRx, nextTy, nextY}
 use Rattle.step.specs.Update.{stateOf, stopped, stepped, StepReady, StepOutcome}
@@ -37,11 +37,11 @@ stopped-rule : (p : Problem) (s : State) → stopped p s ≡ stateOf (projected 
 unfolding stopped
 stopped-rule p s = refl
 
-projected-rule : (shape : Shape) (c a b : List Float) (words : List ℕ) (par : SolverParam) (x cone : List Float) → projected (problemIn shape c a b words par) x cone ≡ projectedIn par shape words x cone
+projected-rule : (shape : Shape) (c : List Float) (a : Slices) (b : List Float) (words : List ℕ) (par : SolverParam) (x cone : List Float) → projected (problemIn shape c a b words par) x cone ≡ projectedIn par shape words x cone
 unfolding projected
 projected-rule shape c a b words par x cone = refl
 
-tau-rule : (shape : Shape) (c a b : List Float) (words : List ℕ) (par : SolverParam) (x : List Float) → tauTaken (problemIn shape c a b words par) x ≡ takenIn shape x
+tau-rule : (shape : Shape) (c : List Float) (a : Slices) (b : List Float) (words : List ℕ) (par : SolverParam) (x : List Float) → tauTaken (problemIn shape c a b words par) x ≡ takenIn shape x
 unfolding tauTaken
 tau-rule shape c a b words par x = refl
 
@@ -68,7 +68,7 @@ stopped-left p s b e = rw e
 
 -- ---- all of it, for a caller that has what a step asks: what each answer of the projection makes of the step
 
-module _ {par : SolverParam} {shape : Shape} {c a b : List Float} {words : List ℕ} {x y dpTau dpSigma rx tx cone x₁ rx₁ tx₁ : List Float} {answer : Product} {x₂ cone₂ : List Float} (r : StepReady par shape c a b words (stateOf x y dpTau dpSigma rx tx cone)) (f : XMoved (embedIn shape c a b) x y dpTau tx x₁ rx₁ tx₁) (as-long : length x₁ ≡ length x) (projects : ProductOutcome (projectFits par shape words x₁ cone) (projectedIn par shape words x₁ cone) x₁ cone answer x₂ cone₂) where
+module _ {par : SolverParam} {shape : Shape} {c : List Float} {a : Slices} {b : List Float} {words : List ℕ} {x y dpTau dpSigma rx tx cone x₁ rx₁ tx₁ : List Float} {answer : Product} {x₂ cone₂ : List Float} (r : StepReady par shape c a b words (stateOf x y dpTau dpSigma rx tx cone)) (f : XMoved (embedIn shape c a b) x y dpTau tx x₁ rx₁ tx₁) (as-long : length x₁ ≡ length x) (projects : ProductOutcome (projectFits par shape words x₁ cone) (projectedIn par shape words x₁ cone) x₁ cone answer x₂ cone₂) where
   abbrev p : Problem
   p = problemIn shape c a b words par
 

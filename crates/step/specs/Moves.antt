@@ -8,14 +8,14 @@ use Rattle.rules.specs.declared.Shape.{Shape}
 use Rattle.rules.specs.Helpers.{one, larger, smaller}
 use Rattle.rules.specs.Arithmetic.{_-ᶠ_, +0, at}
 use Rattle.rules.specs.Vectors.{added, transformedDi}
-use Rattle.rules.specs.Problem.{Embed, lengthY}
+use Rattle.rules.specs.Problem.{Slices, Embed, lengthY}
 use Rattle.rules.specs.Step.{opK, transOpK}
 use Rattle.shape.specs.Fitting.{Fits, LikeX, LikeY}
 
 -- ---- x
 
 -- what a move of x asks
-pub record CanMoveX (shape : Shape) (c a b x y dpTau rx tx : List Float) : Type 0 where
+pub record CanMoveX (shape : Shape) (c : List Float) (a : Slices) (b x y dpTau rx tx : List Float) : Type 0 where
   pub operators : Fits shape c a b
   pub x-like : LikeX shape x
   pub y-like : LikeY shape y
@@ -41,7 +41,7 @@ takenIn shape x = set x (tauPlace shape) (larger (at x (tauPlace shape)) +0)
 -- ---- y
 
 -- what a move of y asks
-pub record CanMoveY (shape : Shape) (c a b x y dpSigma rx tx : List Float) : Type 0 where
+pub record CanMoveY (shape : Shape) (c : List Float) (a : Slices) (b x y dpSigma rx tx : List Float) : Type 0 where
   pub operators : Fits shape c a b
   pub x-like : LikeX shape x
   pub y-like : LikeY shape y

@@ -10,7 +10,7 @@ use Rattle.rules.specs.declared.Product.the-variants.{No}
 use Rattle.rules.specs.declared.Shape.{Shape}
 use Rattle.rules.specs.declared.SolverParam.{SolverParam}
 use Rattle.rules.specs.Product.{isNone, productAnswer, lengthsFit}
-use Rattle.rules.specs.Problem.{Problem}
+use Rattle.rules.specs.Problem.{Problem, Slices}
 use Rattle.rules.specs.Step.{State, movedX, projected, updated}
 use Rattle.shape.specs.Fitting.{operatorsFit, fitsX, fitsY, Fits, LikeX, LikeY}
 use Rattle.project.specs.Project.{ConesReady}
@@ -38,13 +38,13 @@ abbrev pub vectorsFit : Shape → List Float → List Float → List Float → L
 vectorsFit shape x y dpTau dpSigma rx tx =
     fitsX shape x && fitsY shape y && fitsX shape dpTau && fitsY shape dpSigma && fitsX shape rx && fitsX shape tx
 
-abbrev pub stepFits : SolverParam → Shape → List Float → List Float → List Float → List ℕ → State → Bool
+abbrev pub stepFits : SolverParam → Shape → List Float → Slices → List Float → List ℕ → State → Bool
 stepFits par shape c a b words s =
     vectorsFit shape (s .x) (s .y) (s .dpTau) (s .dpSigma) (s .rx) (s .tx) && operatorsFit shape c a b
     && lengthsFit par words (shape .rows .0) (length (s .cone))
 
 -- the same, part by part
-pub record StepReady (par : SolverParam) (shape : Shape) (c a b : List Float) (words : List ℕ) (s : State) : Type 0 where
+pub record StepReady (par : SolverParam) (shape : Shape) (c : List Float) (a : Slices) (b : List Float) (words : List ℕ) (s : State) : Type 0 where
   pub operators : Fits shape c a b
   pub cones : ConesReady par (shape .rows .0) words (length (s .cone))
   pub x-like : LikeX shape (s .x)

@@ -11,7 +11,7 @@ ghost use mathlib.Core.Path.{_≡_};
 ghost use mathlib.Core.Bool.{true};
 ghost use lib.ListN.{length};
 ghost use Rattle.rules.specs.Limits.{limit};
-ghost use Rattle.rules.specs.Problem.{problemIn, embedIn};
+ghost use Rattle.rules.specs.Problem.{slices, problemIn, embedIn};
 ghost use Rattle.shape.specs.Fitting.{LikeX};
 ghost use Rattle.step.specs.Moves.{CanMoveX, XMoved, takenIn, CanMoveY, YMoved};
 ghost use Rattle.step.specs.Update.{stateOf, vectorsFit, stepFits, StepReady, StepOutcome};
@@ -22,7 +22,8 @@ pub fn update_vecs(
     par: SolverParam,
     shape: Shape,
     c: &[f64],
-    a: &[f64],
+    a1: &[f64],
+    a2: &[f64],
     b: &[f64],
     words: &[u16],
     x: &mut [f64],
@@ -37,8 +38,10 @@ pub fn update_vecs(
         (let s = stateOf (now (x .entry)) (now (y .entry)) (now («dp_tau» .entry)) (now («dp_sigma» .entry))
         (now (rx .entry)) (now (tx .entry)) (now («cone_work» .entry)) in
         StepOutcome
-        (stepFits par shape (now (c .entry)) (now (a .entry)) (now (b .entry)) (now (words .entry)) s)
-        (problemIn shape (now (c .entry)) (now (a .entry)) (now (b .entry)) (now (words .entry)) par) s r
+        (stepFits par shape (now (c .entry)) (slices (now (a1 .entry)) (now (a2 .entry))) (now (b .entry))
+        (now (words .entry)) s)
+        (problemIn shape (now (c .entry)) (slices (now (a1 .entry)) (now (a2 .entry))) (now (b .entry))
+        (now (words .entry)) par) s r
         (stateOf (now (x .exit)) (now (y .exit)) (now («dp_tau» .entry)) (now («dp_sigma» .entry))
         (now (rx .exit)) (now (tx .exit)) (now («cone_work» .exit))))
         ⌝ }
@@ -46,7 +49,7 @@ pub fn update_vecs(
     if !vectors_fit(shape, x, y, dp_tau, dp_sigma, rx, tx) {
         return Product::No;
     }
-    if !operators_fit(shape, c, a, b) {
+    if !operators_fit(shape, c, a1, a2, b) {
         return Product::No;
     }
     if !product_fits(par, words, shape.rows.0, cone_work.len()) {
@@ -56,7 +59,8 @@ pub fn update_vecs(
         par,
         shape,
         c,
-        a,
+        a1,
+        a2,
         b,
         words,
         x,
@@ -108,7 +112,8 @@ fn update_fitting(
     par: SolverParam,
     shape: Shape,
     c: &[f64],
-    a: &[f64],
+    a1: &[f64],
+    a2: &[f64],
     b: &[f64],
     words: &[u16],
     x: &mut [f64],
@@ -120,12 +125,13 @@ fn update_fitting(
     cone_work: &mut [f64],
 ) -> Product
     requires { ⌜
-        StepReady par shape (now c) (now a) (now b) (now words)
+        StepReady par shape (now c) (slices (now a1) (now a2)) (now b) (now words)
         (stateOf (now x) (now y) (now «dp_tau») (now «dp_sigma») (now rx) (now tx) (now «cone_work»))
         ⌝ }
     ensures { λ r. ⌜
         StepOutcome true
-        (problemIn shape (now (c .entry)) (now (a .entry)) (now (b .entry)) (now (words .entry)) par)
+        (problemIn shape (now (c .entry)) (slices (now (a1 .entry)) (now (a2 .entry))) (now (b .entry))
+        (now (words .entry)) par)
         (stateOf (now (x .entry)) (now (y .entry)) (now («dp_tau» .entry)) (now («dp_sigma» .entry))
         (now (rx .entry)) (now (tx .entry)) (now («cone_work» .entry)))
         r
@@ -133,12 +139,12 @@ fn update_fitting(
         (now (rx .exit)) (now (tx .exit)) (now («cone_work» .exit)))
         ⌝ }
 {
-    move_x(shape, c, a, b, x, y, dp_tau, rx, tx);
+    move_x(shape, c, a1, a2, b, x, y, dp_tau, rx, tx);
     let p = project::project(par, shape, words, x, cone_work);
     match p {
         Product::Done(q) => {
             take_tau(shape, x);
-            move_y(shape, c, a, b, x, y, dp_sigma, rx, tx);
+            move_y(shape, c, a1, a2, b, x, y, dp_sigma, rx, tx);
             Product::Done(q)
         }
         Product::Failed(block, q) => Product::Failed(block, q),
@@ -150,7 +156,8 @@ fn update_fitting(
 fn move_x(
     shape: Shape,
     c: &[f64],
-    a: &[f64],
+    a1: &[f64],
+    a2: &[f64],
     b: &[f64],
     x: &mut [f64],
     y: &[f64],
@@ -158,15 +165,19 @@ fn move_x(
     rx: &mut [f64],
     tx: &mut [f64],
 )
-    requires { ⌜ CanMoveX shape (now c) (now a) (now b) (now x) (now y) (now «dp_tau») (now rx) (now tx) ⌝ }
+    requires { ⌜
+        CanMoveX shape (now c) (slices (now a1) (now a2)) (now b) (now x) (now y) (now «dp_tau») (now rx)
+        (now tx)
+        ⌝ }
     ensures { λ _. ⌜
-        XMoved (embedIn shape (now (c .entry)) (now (a .entry)) (now (b .entry))) (now (x .entry))
+        XMoved (embedIn shape (now (c .entry)) (slices (now (a1 .entry)) (now (a2 .entry))) (now (b .entry)))
+        (now (x .entry))
         (now (y .entry)) (now («dp_tau» .entry)) (now (tx .entry)) (now (x .exit)) (now (rx .exit))
         (now (tx .exit))
         ⌝ }
 {
     linalg::copy(x, rx);
-    embed_trans::trans_op(shape, c, a, b, -1.0, y, 0.0, tx);
+    embed_trans::trans_op(shape, c, a1, a2, b, -1.0, y, 0.0, tx);
     linalg::transform_di(1.0, dp_tau, tx, 1.0, x);
 }
 
@@ -187,7 +198,8 @@ fn take_tau(shape: Shape, x: &mut [f64])
 fn move_y(
     shape: Shape,
     c: &[f64],
-    a: &[f64],
+    a1: &[f64],
+    a2: &[f64],
     b: &[f64],
     x: &[f64],
     y: &mut [f64],
@@ -195,9 +207,13 @@ fn move_y(
     rx: &mut [f64],
     tx: &mut [f64],
 )
-    requires { ⌜ CanMoveY shape (now c) (now a) (now b) (now x) (now y) (now «dp_sigma») (now rx) (now tx) ⌝ }
+    requires { ⌜
+        CanMoveY shape (now c) (slices (now a1) (now a2)) (now b) (now x) (now y) (now «dp_sigma») (now rx)
+        (now tx)
+        ⌝ }
     ensures { λ _. ⌜
-        YMoved (embedIn shape (now (c .entry)) (now (a .entry)) (now (b .entry))) (now (x .entry))
+        YMoved (embedIn shape (now (c .entry)) (slices (now (a1 .entry)) (now (a2 .entry))) (now (b .entry)))
+        (now (x .entry))
         (now (y .entry)) (now («dp_sigma» .entry)) (now (rx .entry)) (now (tx .entry)) (now (y .exit))
         (now (rx .exit)) (now (tx .exit))
         ⌝ }
@@ -207,7 +223,7 @@ fn move_y(
     let nm = n + m;
     let nm1 = nm + 1;
     linalg::add(-1.0 - 1.0, x, rx);
-    embed::op(shape, c, a, b, -1.0, rx, 0.0, &mut tx[0..nm1]);
+    embed::op(shape, c, a1, a2, b, -1.0, rx, 0.0, &mut tx[0..nm1]);
     linalg::transform_di(1.0, dp_sigma, &tx[0..nm1], 1.0, y);
     y[nm] = float::smaller(y[nm], 0.0);
 }

@@ -15,7 +15,7 @@ use Rattle.rules.specs.declared.Product.the-variants.{Done, Failed, No as NoPro
 use Rattle.rules.specs.declared.Verdict.{Verdict}
 use Rattle.rules.specs.declared.Verdict.the-variants.{Ends}
 use Rattle.rules.specs.Product.{none, block}
-use Rattle.rules.specs.Problem.{Problem, embed, problemIn, embedIn}
+use Rattle.rules.specs.Problem.{Slices, Problem, embed, problemIn, embedIn}
 use Rattle.rules.specs.Step.{State, updated}
 use Rattle.rules.specs.Criteria.{judged}
 use Rattle.rules.specs.Run.{wholeStep, verdict}
@@ -112,7 +112,7 @@ module _ {fits : Bool} {p : Problem} {ns : Norms} {k : ℕ} {s : State} where
 
 -- ---- all of it, from what `update_vecs` left: what each answer of its makes of the whole step
 
-module _ (par : SolverParam) (shape : Shape) (c a b : List Float) (words : List ℕ) (ns : Norms) (k : ℕ) (x y dpTau dpSigma rx tx cone : List Float) {answer : Product} {x₁ y₁ rx₁ tx₁ cone₁ : List Float} (u : StepOutcome (stepFits par shape c a b words (stateOf x y dpTau dpSigma rx tx cone)) (problemIn shape c a b words par) (stateOf x y dpTau dpSigma rx tx cone) answer (stateOf x₁ y₁ dpTau dpSigma rx₁ tx₁ cone₁)) where
+module _ (par : SolverParam) (shape : Shape) (c : List Float) (a : Slices) (b : List Float) (words : List ℕ) (ns : Norms) (k : ℕ) (x y dpTau dpSigma rx tx cone : List Float) {answer : Product} {x₁ y₁ rx₁ tx₁ cone₁ : List Float} (u : StepOutcome (stepFits par shape c a b words (stateOf x y dpTau dpSigma rx tx cone)) (problemIn shape c a b words par) (stateOf x y dpTau dpSigma rx tx cone) answer (stateOf x₁ y₁ dpTau dpSigma rx₁ tx₁ cone₁)) where
   abbrev from : State
   from = stateOf x y dpTau dpSigma rx tx cone
 

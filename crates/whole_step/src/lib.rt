@@ -10,7 +10,7 @@ use rules::Verdict;
 use step::update_vecs;
 ghost use mathlib.Core.Path.{_≡_};
 ghost use Rattle.rules.specs.Criteria.{judged};
-ghost use Rattle.rules.specs.Problem.{problemIn, embedIn};
+ghost use Rattle.rules.specs.Problem.{slices, problemIn, embedIn};
 ghost use Rattle.rules.specs.Product.{none};
 ghost use Rattle.rules.specs.Run as rules;
 ghost use Rattle.shape.specs.Fitting.{Fits, LikeX};
@@ -29,7 +29,8 @@ pub fn whole_step(
     par: SolverParam,
     shape: Shape,
     c: &[f64],
-    a: &[f64],
+    a1: &[f64],
+    a2: &[f64],
     b: &[f64],
     words: &[u16],
     norms: Norms,
@@ -46,8 +47,10 @@ pub fn whole_step(
         (let s = stateOf (now (x .entry)) (now (y .entry)) (now («dp_tau» .entry)) (now («dp_sigma» .entry))
         (now (rx .entry)) (now (tx .entry)) (now («cone_work» .entry)) in
         WholeStepOutcome
-        (stepFits par shape (now (c .entry)) (now (a .entry)) (now (b .entry)) (now (words .entry)) s)
-        (problemIn shape (now (c .entry)) (now (a .entry)) (now (b .entry)) (now (words .entry)) par) norms k s
+        (stepFits par shape (now (c .entry)) (slices (now (a1 .entry)) (now (a2 .entry))) (now (b .entry))
+        (now (words .entry)) s)
+        (problemIn shape (now (c .entry)) (slices (now (a1 .entry)) (now (a2 .entry))) (now (b .entry))
+        (now (words .entry)) par) norms k s
         r
         (stateOf (now (x .exit)) (now (y .exit)) (now («dp_tau» .entry)) (now («dp_sigma» .entry))
         (now (rx .exit)) (now (tx .exit)) (now («cone_work» .exit))))
@@ -57,7 +60,8 @@ pub fn whole_step(
         par,
         shape,
         c,
-        a,
+        a1,
+        a2,
         b,
         words,
         x,
@@ -70,7 +74,7 @@ pub fn whole_step(
     );
     match p {
         Product::Done(q) => {
-            let v = judge(par, shape, c, a, b, norms, k, x, rx);
+            let v = judge(par, shape, c, a1, a2, b, norms, k, x, rx);
             StepAnswer::Said(v, q)
         }
         Product::Failed(block, q) => StepAnswer::Said(Verdict::Ends(Ending::ConeFailure(block)), q),
@@ -83,29 +87,32 @@ fn judge(
     par: SolverParam,
     shape: Shape,
     c: &[f64],
-    a: &[f64],
+    a1: &[f64],
+    a2: &[f64],
     b: &[f64],
     norms: Norms,
     k: u64,
     x: &[f64],
     rx: &mut [f64],
 ) -> Verdict
-    requires { ⌜ Fits shape (now c) (now a) (now b) ⌝ }
+    requires { ⌜ Fits shape (now c) (slices (now a1) (now a2)) (now b) ⌝ }
     requires { ⌜ LikeX shape (now x) ⌝ }
     requires { ⌜ LikeX shape (now rx) ⌝ }
     ensures says { λ r. ⌜
         r
         ≡ rules.verdict par k none
-        (judged (embedIn shape (now (c .entry)) (now (a .entry)) (now (b .entry))) (par .«eps_zero») norms
+        (judged (embedIn shape (now (c .entry)) (slices (now (a1 .entry)) (now (a2 .entry)))
+        (now (b .entry))) (par .«eps_zero») norms
         (now (x .entry)) (now (rx .entry)) .criteria)
         ⌝ }
     ensures rx_left { λ r. ⌜
         now (rx .exit)
-        ≡ judged (embedIn shape (now (c .entry)) (now (a .entry)) (now (b .entry))) (par .«eps_zero») norms
+        ≡ judged (embedIn shape (now (c .entry)) (slices (now (a1 .entry)) (now (a2 .entry)))
+        (now (b .entry))) (par .«eps_zero») norms
         (now (x .entry)) (now (rx .entry)) .rx
         ⌝ }
 {
-    let j = criteria::judge(par, shape, c, a, b, norms, x, rx);
+    let j = criteria::judge(par, shape, c, a1, a2, b, norms, x, rx);
     match j {
         Judgement::Of(found) => says(par, k, found),
         // the sizes always fit here

@@ -9,13 +9,14 @@ use lib.ListN.{length, drop}
 use Rattle.rules.specs.Helpers.{one, magnitude, reciprocal}
 use Rattle.rules.specs.Arithmetic.{_+ᶠ_, _/ᶠ_, +0, at}
 use Rattle.rules.specs.Matrices.{opped, transOpped}
-use Rattle.rules.specs.Problem.{Embed, column, embedIn}
+use Rattle.rules.specs.Problem.{Embed, column, embedIn, slices}
 use Rattle.rules.specs.Step.{part}
 use Rattle.rules.specs.declared.Norms.{Norms}
 use Rattle.rules.specs.declared.Criteria.the-variants.{Conv}
 use Rattle.rules.specs.Vectors.{norm}
 use Rattle.rules.specs.Criteria.{tauOf, primalResidual, dualResidual, gap, converging}
 use Rattle.rules.proofs.Parts.{put, lent-2, first-put, next-put}
+use Rattle.shape.proofs.Fitting.{c-stored, b-stored}
 use Rattle.criteria.proofs.criteria_conv.Statement.{statement}
 use Rattle.criteria.proofs.criteria_conv.Tie as tie
 
@@ -66,7 +67,9 @@ part-primal-residual-end : tie.Need-part-primal-residual-end
 part-primal-residual-end c = search needs
 
 primal-residual-requires : tie.Need-primal-residual-requires
-primal-residual-requires c κs = search needs
+primal-residual-requires c κs =
+    let p = c .before .before .before .before .before .before .before .before .before .pre in
+    (p .0 .matrix, (b-stored (p .0), (p .1 .0, search needs)))
 
 mul-dual-residual : tie.Need-mul-dual-residual
 mul-dual-residual c = search needs
@@ -81,7 +84,9 @@ part-dual-residual-end : tie.Need-part-dual-residual-end
 part-dual-residual-end c = search needs
 
 dual-residual-requires : tie.Need-dual-residual-requires
-dual-residual-requires c κs = search needs
+dual-residual-requires c κs =
+    let p = c .before .before .before .before .before .before .before .before .before .before .before .before .before .pre in
+    (p .0 .matrix, (c-stored (p .0), (p .1 .0, search needs)))
 
 objectives-requires : tie.Need-objectives-requires
 objectives-requires c κs = search needs
@@ -95,13 +100,13 @@ same-length c = search needs
 returns : tie.Need-returns
 unfolding one
 returns c =
-    let s = c .before .before .before .before .before .before .before .before .before .before .before .before .before .before .before .before .before .before .before in
+    let s = c .before .before .before .before .before .before .before .before .before .before .before .before .before .before .before .before .before .before .before .before in
     let k = s .args in
-    let e = embedIn (k .shape) (k .c .now) (k .a .now) (k .b .now) in
+    let e = embedIn (k .shape) (k .c .now) (slices (k .a1 .now) (k .a2 .now)) (k .b .now) in
     let x = k .x .now in
     let w = k .rx .now in
-    let p = c .before .before .before .before .before .before .before .before .before .before .primal-residual .last .1 .1 .1 .1 .1 .0 in
-    let q = c .before .before .before .before .before .before .dual-residual .last .1 .1 .1 .1 .1 .0 in
+    let p = c .before .before .before .before .before .before .before .before .before .before .primal-residual .last .1 .1 .1 .1 .1 .1 .0 in
+    let q = c .before .before .before .before .before .before .dual-residual .last .1 .1 .1 .1 .1 .1 .0 in
     let p-length : length p ≡ k .shape .rows .0 = omega (arith, s .pre, c .before .before .before .before .before .before .before .before .before .before .primal-residual .kept, c .before .before .before .before .before .before .before .before .before .before .before .primal-residual-arg) in
     let q-length : length q ≡ k .shape .cols .0 = omega (arith, s .pre, c .before .before .before .before .before .before .dual-residual .kept, c .before .before .before .before .before .before .before .dual-residual-arg) in
     let scale = c .before .before .before .before .before .before .before .before .before .before .before .before .reciprocal .ensures in

@@ -9,7 +9,7 @@ use lib.ListN.{length, drop}
 use Rattle.rules.specs.Helpers.{one}
 use Rattle.rules.specs.Arithmetic.{+0, at}
 use Rattle.rules.specs.Matrices.{opped, transOpped}
-use Rattle.rules.specs.Problem.{Embed, column, embedIn}
+use Rattle.rules.specs.Problem.{Embed, column, embedIn, slices}
 use Rattle.rules.specs.Step.{part}
 use Rattle.rules.specs.declared.Norms.{Norms}
 use Rattle.rules.specs.declared.Criteria.the-variants.{Inf}
@@ -53,7 +53,9 @@ part-ray-end : tie.Need-part-ray-end
 part-ray-end c = search needs
 
 ray-requires : tie.Need-ray-requires
-ray-requires c κs = search needs
+ray-requires c κs =
+    let p = c .before .before .before .before .before .before .before .pre in
+    (p .0 .matrix, (p .1 .0, search needs))
 
 mul-dual-ray : tie.Need-mul-dual-ray
 mul-dual-ray c = search needs
@@ -68,7 +70,9 @@ part-dual-ray-end : tie.Need-part-dual-ray-end
 part-dual-ray-end c = search needs
 
 dual-ray-requires : tie.Need-dual-ray-requires
-dual-ray-requires c κs = search needs
+dual-ray-requires c κs =
+    let p = c .before .before .before .before .before .before .before .before .before .before .before .pre in
+    (p .0 .matrix, (p .1 .0, search needs))
 
 objectives-requires : tie.Need-objectives-requires
 objectives-requires c κs = search needs
@@ -85,13 +89,13 @@ same-length c = search needs
 returns : tie.Need-returns
 unfolding one
 returns c =
-    let s = c .before .before .before .before .before .before .before .before .before .before .before .before .before .before .before .before in
+    let s = c .before .before .before .before .before .before .before .before .before .before .before .before .before .before .before .before .before in
     let k = s .args in
-    let e = embedIn (k .shape) (k .c .now) (k .a .now) (k .b .now) in
+    let e = embedIn (k .shape) (k .c .now) (slices (k .a1 .now) (k .a2 .now)) (k .b .now) in
     let x = k .x .now in
     let w = k .rx .now in
-    let p = c .before .before .before .before .before .before .before .before .before .ray .last .1 .1 .1 .0 in
-    let q = c .before .before .before .before .before .dual-ray .last .1 .1 .1 .0 in
+    let p = c .before .before .before .before .before .before .before .before .before .ray .last .1 .1 .1 .1 .0 in
+    let q = c .before .before .before .before .before .dual-ray .last .1 .1 .1 .1 .0 in
     let p-length : length p ≡ k .shape .rows .0 = omega (arith, s .pre, c .before .before .before .before .before .before .before .before .before .ray .kept, c .before .before .before .before .before .before .before .before .before .before .ray-arg) in
     let q-length : length q ≡ k .shape .cols .0 = omega (arith, s .pre, c .before .before .before .before .before .dual-ray .kept, c .before .before .before .before .before .before .dual-ray-arg) in
     let pri = ray-is e x p (c .before .before .before .before .before .before .before .before .before .ray .ensures .0) in

@@ -6,17 +6,14 @@ use mathlib.Core.List.{[], _∷_}
 use borrow.Author.Needs.{needs}
 use Rattle.rules.specs.Helpers.{one}
 use Rattle.rules.specs.Step.{part}
-use Rattle.rules.proofs.Kernels.{trans-op-ruled}
 use Rattle.rules.proofs.Parts.{places}
+use Rattle.matop.proofs.ByStorage.{split-trans-op-ruled}
 use Rattle.shape.proofs.Fitting.{long-y}
 use Rattle.criteria.proofs.dual_ray.Statement.{statement}
 use Rattle.criteria.proofs.dual_ray.Tie as tie
 
 add-nm : tie.Need-add-nm
 add-nm c = search needs
-
-matrix-of-requires : tie.Need-matrix-of-requires
-matrix-of-requires c κs = search needs
 
 mul-trans-op : tie.Need-mul-trans-op
 mul-trans-op c = search needs
@@ -49,7 +46,7 @@ returns c =
     let f = s .pre .0 in
     let like = s .pre .1 .0 in
     let long = s .pre .1 .1 in
-    let first = trans-op-ruled (part n m (k .x .now)) (rw (c .before .before .before .before .before .before .before .matrix-of .ensures, places n m) at (c .before .before .before .before .trans-op .ensures)) (f .stored) (long-y like ∙ sym (f .rows)) (long ∙ sym (f .cols)) in
+    let first = split-trans-op-ruled (part n m (k .x .now)) (rw (places n m) at (c .before .before .before .before .trans-op .ensures)) f (long-y like) (long) in
     (first, c .norm .ensures)
 
 pub dual-ray-spec : {M : Type 1} → statement M
@@ -57,7 +54,6 @@ dual-ray-spec =
     tie.close
     (tie.spec
     add-nm
-    matrix-of-requires
     mul-trans-op
     sub-trans-op
     part-trans-op-start

@@ -6,17 +6,15 @@ use mathlib.Core.List.{[], _∷_}
 use borrow.Author.Needs.{needs}
 use Rattle.rules.specs.Helpers.{one}
 use Rattle.rules.specs.Step.{part}
-use Rattle.rules.proofs.Kernels.{op-ruled, trans-op-ruled}
+use Rattle.rules.proofs.Kernels.{op-ruled}
 use Rattle.rules.proofs.Parts.{places}
+use Rattle.matop.proofs.ByStorage.{split-trans-op-ruled}
 use Rattle.shape.proofs.Fitting.{long-y}
 use Rattle.criteria.proofs.dual_residual.Statement.{statement}
 use Rattle.criteria.proofs.dual_residual.Tie as tie
 
 add-nm : tie.Need-add-nm
 add-nm c = search needs
-
-matrix-of-requires : tie.Need-matrix-of-requires
-matrix-of-requires c κs = search needs
 
 column-requires : tie.Need-column-requires
 column-requires c κs = search needs
@@ -59,7 +57,7 @@ returns c =
     let like = s .pre .1 .1 .0 in
     let long = s .pre .1 .1 .1 in
     let first = op-ruled (one ∷ []) (rw (c .before .before .before .before .before .before .before .before .before .before .before .before .column .ensures) at (c .before .before .before .before .before .before .before .before .before .op .ensures)) (s .pre .1 .0) refl long in
-    let second = trans-op-ruled (part n m (k .x .now)) (rw (c .before .before .before .before .before .before .before .before .before .before .before .before .before .matrix-of .ensures, places n m) at (c .before .before .before .before .trans-op .ensures)) (f .stored) (long-y like ∙ sym (f .rows)) (omega (arith, c .before .before .before .before .before .before .before .before .before .op .kept, long, f .cols)) in
+    let second = split-trans-op-ruled (part n m (k .x .now)) (rw (places n m) at (c .before .before .before .before .trans-op .ensures)) f (long-y like) (omega (arith, c .before .before .before .before .before .before .before .before .before .op .kept, long)) in
     (second ∙ rw first, c .norm .ensures)
 
 pub dual-residual-spec : {M : Type 1} → statement M
@@ -67,7 +65,6 @@ dual-residual-spec =
     tie.close
     (tie.spec
     add-nm
-    matrix-of-requires
     column-requires
     slice-aggregate-op
     op-requires

@@ -2,6 +2,7 @@
 use mathlib.Core.Path.{sym, _∙_}
 use borrow.Author.Needs.{needs}
 use borrow.Author.Tests.{not-true, not-false}
+use Rattle.rules.specs.Problem.{slices}
 use Rattle.criteria.proofs.Judging.{all-fit, judge-refused, judge-done}
 use Rattle.criteria.proofs.judge.Statement.{statement}
 use Rattle.criteria.proofs.judge.Tie as tie
@@ -17,8 +18,8 @@ returns c = judge-refused (sym (c .before .fits2 .ensures) ∙ not-true _ (c .if
 
 judge-by-tau-requires : tie.Need-judge-by-tau-requires
 judge-by-tau-requires c κs =
-    let k = c .before .before .before .before .before .before .before .before .before .args in
-    let f = all-fit (k .shape) (k .c .now) (k .a .now) (k .b .now) (k .x .now) (k .rx .now) (sym (c .before .before .fits2 .ensures) ∙ not-false _ (c .before .if1 .left)) in
+    let k = c .before .before .before .before .before .before .before .before .before .before .args in
+    let f = all-fit (k .shape) (k .c .now) (slices (k .a1 .now) (k .a2 .now)) (k .b .now) (k .x .now) (k .rx .now) (sym (c .before .before .fits2 .ensures) ∙ not-false _ (c .before .if1 .left)) in
     (f .operators, (f .x-like, f .rx-like))
 
 same-length-2 : tie.Need-same-length-2

@@ -5,7 +5,7 @@ use mathlib.Core.List.{List}
 use borrow.Author.Needs.{needs}
 use lib.Ieee.{Float, lt}
 use Rattle.rules.specs.declared.Norms.{Norms}
-use Rattle.rules.specs.Problem.{Embed, embedIn}
+use Rattle.rules.specs.Problem.{Embed, embedIn, slices}
 use Rattle.rules.specs.Criteria.{tauOf, converging, diverging, judged}
 use Rattle.criteria.proofs.judge_by_tau.Statement.{statement}
 use Rattle.criteria.proofs.judge_by_tau.Tie as tie
@@ -31,18 +31,18 @@ shared-slice-read-if1 : tie.Need-shared-slice-read-if1
 shared-slice-read-if1 c = search needs
 
 criteria-conv-requires : tie.Need-criteria-conv-requires
-criteria-conv-requires c κs = c .before .before .before .before .before .before .before .before .before .pre
+criteria-conv-requires c κs = c .before .before .before .before .before .before .before .before .before .before .pre
 
 criteria-inf-requires : tie.Need-criteria-inf-requires
-criteria-inf-requires c κs = c .before .before .before .before .before .before .before .before .before .pre
+criteria-inf-requires c κs = c .before .before .before .before .before .before .before .before .before .before .pre
 
 same-length : tie.Need-same-length
 same-length c = search needs
 
 returns : tie.Need-returns
 returns c =
-    let k = c .before .before .before .before .before .before .before .before .before .before .before .before .args in
-    let e = above (embedIn (k .shape) (k .c .now) (k .a .now) (k .b .now)) (k .par .«eps_zero») (k .norms) (k .x .now) (k .rx .now) (c .before .before .before .before .if1 .taken) in
+    let k = c .before .before .before .before .before .before .before .before .before .before .before .before .before .args in
+    let e = above (embedIn (k .shape) (k .c .now) (slices (k .a1 .now) (k .a2 .now)) (k .b .now)) (k .par .«eps_zero») (k .norms) (k .x .now) (k .rx .now) (c .before .before .before .before .if1 .taken) in
     (rw e at (c .before .before .criteria-conv .ensures .0), rw e at (c .before .before .criteria-conv .ensures .1))
 
 same-length-2 : tie.Need-same-length-2
@@ -50,8 +50,8 @@ same-length-2 c = search needs
 
 returns-2 : tie.Need-returns-2
 returns-2 c =
-    let k = c .before .before .before .before .before .before .before .before .before .before .before .before .args in
-    let e = not-above (embedIn (k .shape) (k .c .now) (k .a .now) (k .b .now)) (k .par .«eps_zero») (k .norms) (k .x .now) (k .rx .now) (c .before .before .before .before .if1 .left) in
+    let k = c .before .before .before .before .before .before .before .before .before .before .before .before .before .args in
+    let e = not-above (embedIn (k .shape) (k .c .now) (slices (k .a1 .now) (k .a2 .now)) (k .b .now)) (k .par .«eps_zero») (k .norms) (k .x .now) (k .rx .now) (c .before .before .before .before .if1 .left) in
     (rw e at (c .before .before .criteria-inf .ensures .0), rw e at (c .before .before .criteria-inf .ensures .1))
 
 pub judge-by-tau-spec : {M : Type 1} → statement M

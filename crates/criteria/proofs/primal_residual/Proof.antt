@@ -8,6 +8,7 @@ use Rattle.rules.specs.Helpers.{one}
 use Rattle.rules.specs.Step.{part}
 use Rattle.rules.proofs.Kernels.{add-ruled, op-ruled}
 use Rattle.rules.proofs.Parts.{places, from-start}
+use Rattle.matop.proofs.ByStorage.{split-op-ruled}
 use Rattle.shape.proofs.Fitting.{long-x, long-s}
 use Rattle.criteria.proofs.primal_residual.Statement.{statement}
 use Rattle.criteria.proofs.primal_residual.Tie as tie
@@ -17,9 +18,6 @@ add-nm c = search needs
 
 add-nmm : tie.Need-add-nmm
 add-nmm c = search needs
-
-matrix-of-requires : tie.Need-matrix-of-requires
-matrix-of-requires c κs = search needs
 
 mul-copy : tie.Need-mul-copy
 mul-copy c = search needs
@@ -75,7 +73,7 @@ returns c =
     let long = s .pre .1 .1 .1 in
     let first = add-ruled (part (n + m) m (k .x .now)) (rw (places (n + m) m) at (c .before .before .before .before .before .before .before .before .before .before .before .before .before .before .before .copy .ensures)) (long-s like ∙ sym long) in
     let second = op-ruled (one ∷ []) (rw (c .before .before .before .before .before .before .before .before .before .before .before .before .column .ensures) at (c .before .before .before .before .before .before .before .before .before .op .ensures)) (s .pre .1 .0) refl (omega (arith, c .before .before .before .before .before .before .before .before .before .before .before .before .before .before .before .copy .kept, long)) in
-    let third = op-ruled (part 0 n (k .x .now)) (rw (c .before .before .before .before .before .before .before .before .before .before .before .before .before .before .before .before .before .before .matrix-of .ensures, from-start n) at (c .before .before .before .before .op2 .ensures)) (f .stored) (long-x like ∙ sym (f .cols)) (omega (arith, c .before .before .before .before .before .before .before .before .before .before .before .before .before .before .before .copy .kept, c .before .before .before .before .before .before .before .before .before .op .kept, long, f .rows)) in
+    let third = split-op-ruled (part 0 n (k .x .now)) (rw (from-start n) at (c .before .before .before .before .op2 .ensures)) f (long-x like) (omega (arith, c .before .before .before .before .before .before .before .before .before .before .before .before .before .before .before .copy .kept, c .before .before .before .before .before .before .before .before .before .op .kept, long)) in
     (third ∙ rw (second, first), c .norm .ensures)
 
 pub primal-residual-spec : {M : Type 1} → statement M
@@ -84,7 +82,6 @@ primal-residual-spec =
     (tie.spec
     add-nm
     add-nmm
-    matrix-of-requires
     mul-copy
     sub-copy
     part-copy-start

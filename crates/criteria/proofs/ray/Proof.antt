@@ -6,8 +6,9 @@ use mathlib.Core.List.{[], _∷_}
 use borrow.Author.Needs.{needs}
 use Rattle.rules.specs.Helpers.{one}
 use Rattle.rules.specs.Step.{part}
-use Rattle.rules.proofs.Kernels.{add-ruled, op-ruled}
+use Rattle.rules.proofs.Kernels.{add-ruled}
 use Rattle.rules.proofs.Parts.{places, from-start}
+use Rattle.matop.proofs.ByStorage.{split-op-ruled}
 use Rattle.shape.proofs.Fitting.{long-x, long-s}
 use Rattle.criteria.proofs.ray.Statement.{statement}
 use Rattle.criteria.proofs.ray.Tie as tie
@@ -17,9 +18,6 @@ add-nm c = search needs
 
 add-nmm : tie.Need-add-nmm
 add-nmm c = search needs
-
-matrix-of-requires : tie.Need-matrix-of-requires
-matrix-of-requires c κs = search needs
 
 mul-copy : tie.Need-mul-copy
 mul-copy c = search needs
@@ -65,7 +63,7 @@ returns c =
     let like = s .pre .1 .0 in
     let long = s .pre .1 .1 in
     let first = add-ruled (part (n + m) m (k .x .now)) (rw (places (n + m) m) at (c .before .before .before .before .before .before .before .before .before .copy .ensures)) (long-s like ∙ sym long) in
-    let second = op-ruled (part 0 n (k .x .now)) (rw (c .before .before .before .before .before .before .before .before .before .before .before .before .matrix-of .ensures, from-start n) at (c .before .before .before .before .op .ensures)) (f .stored) (long-x like ∙ sym (f .cols)) (omega (arith, c .before .before .before .before .before .before .before .before .before .copy .kept, long, f .rows)) in
+    let second = split-op-ruled (part 0 n (k .x .now)) (rw (from-start n) at (c .before .before .before .before .op .ensures)) f (long-x like) (omega (arith, c .before .before .before .before .before .before .before .before .before .copy .kept, long)) in
     (second ∙ rw first, c .norm .ensures)
 
 pub ray-spec : {M : Type 1} → statement M
@@ -74,7 +72,6 @@ ray-spec =
     (tie.spec
     add-nm
     add-nmm
-    matrix-of-requires
     mul-copy
     sub-copy
     part-copy-start

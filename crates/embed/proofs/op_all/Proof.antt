@@ -25,7 +25,9 @@ part-op-n-end : tie.Need-part-op-n-end
 part-op-n-end c = search needs
 
 op-n-requires : tie.Need-op-n-requires
-op-n-requires c κs = search needs
+op-n-requires c κs =
+    let p = c .before .before .before .before .before .before .before .pre in
+    (p .0, (p .1 .0, search needs))
 
 mul-op-m : tie.Need-mul-op-m
 mul-op-m c = search needs
@@ -40,7 +42,9 @@ part-op-m-end : tie.Need-part-op-m-end
 part-op-m-end c = search needs
 
 op-m-requires : tie.Need-op-m-requires
-op-m-requires c κs = search needs
+op-m-requires c κs =
+    let p = c .before .before .before .before .before .before .before .before .before .before .before .pre in
+    (p .0, (p .1 .0, search needs))
 
 mul-op-1 : tie.Need-mul-op-1
 mul-op-1 c = search needs
@@ -55,7 +59,9 @@ part-op-1-end : tie.Need-part-op-1-end
 part-op-1-end c = search needs
 
 op-1-requires : tie.Need-op-1-requires
-op-1-requires c κs = search needs
+op-1-requires c κs =
+    let p = c .before .before .before .before .before .before .before .before .before .before .before .before .before .before .before .pre in
+    (p .0, (p .1 .0, search needs))
 
 same-length : tie.Need-same-length
 same-length c = search needs
@@ -63,12 +69,12 @@ same-length c = search needs
 returns : tie.Need-returns
 unfolding opN opM op1
 returns c =
-    let start = c .before .before .before .before .before .before .before .before .before .before .before .before .before .before .before .before .before in
+    let start = c .before .before .before .before .before .before .before .before .before .before .before .before .before .before .before .before .before .before in
     let k = start .args in
     let w = k .y .now in
-    let p = c .before .before .before .before .before .before .before .before .before .before .op-n .last .1 .1 .1 .1 .1 .1 .1 .0 in
-    let q = c .before .before .before .before .before .before .op-m .last .1 .1 .1 .1 .1 .1 .1 .0 in
-    let r = c .before .before .op-1 .last .1 .1 .1 .1 .1 .1 .1 .0 in
+    let p = c .before .before .before .before .before .before .before .before .before .before .op-n .last .1 .1 .1 .1 .1 .1 .1 .1 .0 in
+    let q = c .before .before .before .before .before .before .op-m .last .1 .1 .1 .1 .1 .1 .1 .1 .0 in
+    let r = c .before .before .op-1 .last .1 .1 .1 .1 .1 .1 .1 .1 .0 in
     let p-length : length p ≡ k .shape .cols .0 = omega (arith, start .pre, c .before .before .before .before .before .before .before .before .before .before .op-n .kept, c .before .before .before .before .before .before .before .before .before .before .before .op-n-arg) in
     let q-length : length q ≡ k .shape .rows .0 = omega (arith, start .pre, c .before .before .before .before .before .before .op-m .kept, c .before .before .before .before .before .before .before .op-m-arg) in
     let first = rw (from-start (k .shape .cols .0)) at (c .before .before .before .before .before .before .before .before .before .before .op-n .ensures) in

@@ -1,12 +1,13 @@
 -- `embed::op_m` meets its contract.
 use Prim.Native.Nat.{_+_}
 use native.Mathlib.Omega.{arith}
-use mathlib.Core.Path.{sym, _∙_}
+use mathlib.Core.Path.{_∙_}
 use borrow.Author.Needs.{needs}
 use Rattle.rules.specs.Helpers.{one}
 use Rattle.rules.specs.Step.{part}
 use Rattle.rules.proofs.Kernels.{op-ruled, add-ruled}
 use Rattle.rules.proofs.Parts.{places, from-start}
+use Rattle.matop.proofs.ByStorage.{split-op-ruled}
 use Rattle.shape.proofs.Fitting.{b-stored, long-x, long-s, long-tau}
 use Rattle.embed.proofs.op_m.Statement.{statement}
 use Rattle.embed.proofs.op_m.Tie as tie
@@ -19,9 +20,6 @@ add-nmm c = search needs
 
 add-nmm1 : tie.Need-add-nmm1
 add-nmm1 c = search needs
-
-matrix-of-requires : tie.Need-matrix-of-requires
-matrix-of-requires c κs = search needs
 
 sub-op : tie.Need-sub-op
 sub-op c = search needs
@@ -81,7 +79,7 @@ returns c =
     let f = s .pre .0 in
     let like = s .pre .1 .0 in
     let long = s .pre .1 .1 in
-    let first = op-ruled (part 0 n (k .x .now)) (rw (c .before .before .before .before .before .before .before .before .before .before .before .before .before .before .before .before .matrix-of .ensures, from-start n) at (c .before .before .before .before .before .before .before .before .before .before .before .before .before .op .ensures)) (f .matrix .stored) (long-x like ∙ sym (f .matrix .cols)) (long ∙ sym (f .matrix .rows)) in
+    let first = split-op-ruled (part 0 n (k .x .now)) (rw (from-start n) at (c .before .before .before .before .before .before .before .before .before .before .before .before .before .op .ensures)) (f .matrix) (long-x like) (long) in
     let second = add-ruled (part (n + m) m (k .x .now)) (rw (places (n + m) m) at (c .before .before .before .before .before .before .before .before .add .ensures)) (omega (arith, long-s like, c .before .before .before .before .before .before .before .before .before .before .before .before .before .op .kept, long)) in
     let third = op-ruled (part (n + m + m) 1 (k .x .now)) (rw (c .before .before .before .before .before .column .ensures, places (n + m + m) 1) at (c .before .before .op2 .ensures)) (b-stored f) (long-tau like) (omega (arith, c .before .before .before .before .before .before .before .before .add .kept, c .before .before .before .before .before .before .before .before .before .before .before .before .before .op .kept, long)) in
     third ∙ rw (second, first)
@@ -93,7 +91,6 @@ op-m-spec =
     add-nm
     add-nmm
     add-nmm1
-    matrix-of-requires
     sub-op
     part-op-start
     part-op-end

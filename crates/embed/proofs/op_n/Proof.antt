@@ -1,12 +1,13 @@
 -- `embed::op_n` meets its contract.
 use Prim.Native.Nat.{_+_}
 use native.Mathlib.Omega.{arith}
-use mathlib.Core.Path.{sym, _∙_}
+use mathlib.Core.Path.{_∙_}
 use borrow.Author.Needs.{needs}
 use Rattle.rules.specs.Helpers.{one}
 use Rattle.rules.specs.Step.{part}
-use Rattle.rules.proofs.Kernels.{trans-op-ruled, op-ruled}
+use Rattle.rules.proofs.Kernels.{op-ruled}
 use Rattle.rules.proofs.Parts.{places}
+use Rattle.matop.proofs.ByStorage.{split-trans-op-ruled}
 use Rattle.shape.proofs.Fitting.{c-stored, long-y, long-tau}
 use Rattle.embed.proofs.op_n.Statement.{statement}
 use Rattle.embed.proofs.op_n.Tie as tie
@@ -19,9 +20,6 @@ add-nmm c = search needs
 
 add-nmm1 : tie.Need-add-nmm1
 add-nmm1 c = search needs
-
-matrix-of-requires : tie.Need-matrix-of-requires
-matrix-of-requires c κs = search needs
 
 mul-trans-op : tie.Need-mul-trans-op
 mul-trans-op c = search needs
@@ -69,7 +67,7 @@ returns c =
     let f = s .pre .0 in
     let like = s .pre .1 .0 in
     let long = s .pre .1 .1 in
-    let first = trans-op-ruled (part n m (k .x .now)) (rw (c .before .before .before .before .before .before .before .before .before .before .before .matrix-of .ensures, places n m) at (c .before .before .before .before .before .before .before .before .trans-op .ensures)) (f .matrix .stored) (long-y like ∙ sym (f .matrix .rows)) (long ∙ sym (f .matrix .cols)) in
+    let first = split-trans-op-ruled (part n m (k .x .now)) (rw (places n m) at (c .before .before .before .before .before .before .before .before .trans-op .ensures)) (f .matrix) (long-y like) (long) in
     let second = op-ruled (part (n + m + m) 1 (k .x .now)) (rw (c .before .before .before .before .before .column .ensures, places (n + m + m) 1) at (c .before .before .op .ensures)) (c-stored f) (long-tau like) (omega (arith, c .before .before .before .before .before .before .before .before .trans-op .kept, long)) in
     second ∙ rw first
 
@@ -80,7 +78,6 @@ op-n-spec =
     add-nm
     add-nmm
     add-nmm1
-    matrix-of-requires
     mul-trans-op
     sub-trans-op
     part-trans-op-start

@@ -28,7 +28,9 @@ part-trans-x-end : tie.Need-part-trans-x-end
 part-trans-x-end c = search needs
 
 trans-x-requires : tie.Need-trans-x-requires
-trans-x-requires c κs = search needs
+trans-x-requires c κs =
+    let p = c .before .before .before .before .before .before .before .pre in
+    (p .0, (p .1 .0, search needs))
 
 mul-trans-y : tie.Need-mul-trans-y
 mul-trans-y c = search needs
@@ -43,7 +45,9 @@ part-trans-y-end : tie.Need-part-trans-y-end
 part-trans-y-end c = search needs
 
 trans-y-requires : tie.Need-trans-y-requires
-trans-y-requires c κs = search needs
+trans-y-requires c κs =
+    let p = c .before .before .before .before .before .before .before .before .before .before .before .pre in
+    (p .0, (p .1 .0, search needs))
 
 mul-trans-s : tie.Need-mul-trans-s
 mul-trans-s c = search needs
@@ -58,7 +62,9 @@ part-trans-s-end : tie.Need-part-trans-s-end
 part-trans-s-end c = search needs
 
 trans-s-requires : tie.Need-trans-s-requires
-trans-s-requires c κs = search needs
+trans-s-requires c κs =
+    let p = c .before .before .before .before .before .before .before .before .before .before .before .before .before .before .before .pre in
+    (p .0, (p .1 .0, search needs))
 
 mul-trans-tau : tie.Need-mul-trans-tau
 mul-trans-tau c = search needs
@@ -70,10 +76,12 @@ part-trans-tau-start : tie.Need-part-trans-tau-start
 part-trans-tau-start c = search needs
 
 part-trans-tau-end : tie.Need-part-trans-tau-end
-part-trans-tau-end c = omega (arith, c .before .before .before .before .before .before .before .before .before .before .before .before .before .before .before .before .before .pre)
+part-trans-tau-end c = omega (arith, c .before .before .before .before .before .before .before .before .before .before .before .before .before .before .before .before .before .before .pre)
 
 trans-tau-requires : tie.Need-trans-tau-requires
-trans-tau-requires c κs = omega (arith, c .before .before .before .before .before .before .before .before .before .before .before .before .before .before .before .before .before .before .pre, c .trans-tau-arg)
+trans-tau-requires c κs =
+    let p = c .before .before .before .before .before .before .before .before .before .before .before .before .before .before .before .before .before .before .before .pre in
+    (p .0, (p .1 .0, search needs))
 
 same-length : tie.Need-same-length
 same-length c = omega (arith, c .before .x4, c .before .before .before .before .before .x3, c .before .before .before .before .before .before .before .before .before .x2, c .before .before .before .before .before .before .before .before .before .before .before .before .before .x)
@@ -81,13 +89,13 @@ same-length c = omega (arith, c .before .x4, c .before .before .before .before .
 returns : tie.Need-returns
 unfolding transX transY transS transTau
 returns c =
-    let start = c .before .before .before .before .before .before .before .before .before .before .before .before .before .before .before .before .before .before .before .before .before in
+    let start = c .before .before .before .before .before .before .before .before .before .before .before .before .before .before .before .before .before .before .before .before .before .before in
     let k = start .args in
     let w = k .x .now in
-    let p = c .before .before .before .before .before .before .before .before .before .before .before .before .before .before .trans-x .last .1 .1 .1 .1 .1 .1 .1 .0 in
-    let q = c .before .before .before .before .before .before .before .before .before .before .trans-y .last .1 .1 .1 .1 .1 .1 .1 .0 in
-    let r = c .before .before .before .before .before .before .trans-s .last .1 .1 .1 .1 .1 .1 .1 .0 in
-    let s = c .before .before .trans-tau .last .1 .1 .1 .1 .1 .1 .1 .0 in
+    let p = c .before .before .before .before .before .before .before .before .before .before .before .before .before .before .trans-x .last .1 .1 .1 .1 .1 .1 .1 .1 .0 in
+    let q = c .before .before .before .before .before .before .before .before .before .before .trans-y .last .1 .1 .1 .1 .1 .1 .1 .1 .0 in
+    let r = c .before .before .before .before .before .before .trans-s .last .1 .1 .1 .1 .1 .1 .1 .1 .0 in
+    let s = c .before .before .trans-tau .last .1 .1 .1 .1 .1 .1 .1 .1 .0 in
     let p-length : length p ≡ k .shape .cols .0 = omega (arith, start .pre, c .before .before .before .before .before .before .before .before .before .before .before .before .before .before .trans-x .kept, c .before .before .before .before .before .before .before .before .before .before .before .before .before .before .before .trans-x-arg) in
     let q-length : length q ≡ k .shape .rows .0 = omega (arith, start .pre, c .before .before .before .before .before .before .before .before .before .before .trans-y .kept, c .before .before .before .before .before .before .before .before .before .before .before .trans-y-arg) in
     let r-length : length r ≡ k .shape .rows .0 = omega (arith, start .pre, c .before .before .before .before .before .before .trans-s .kept, c .before .before .before .before .before .before .before .trans-s-arg) in

@@ -1,12 +1,13 @@
 -- `embed_trans::trans_x` meets its contract.
 use Prim.Native.Nat.{_+_}
 use native.Mathlib.Omega.{arith}
-use mathlib.Core.Path.{sym, _∙_}
+use mathlib.Core.Path.{_∙_}
 use borrow.Author.Needs.{needs}
 use Rattle.rules.specs.Helpers.{one}
 use Rattle.rules.specs.Step.{part}
-use Rattle.rules.proofs.Kernels.{trans-op-ruled, op-ruled}
+use Rattle.rules.proofs.Kernels.{op-ruled}
 use Rattle.rules.proofs.Parts.{places}
+use Rattle.matop.proofs.ByStorage.{split-trans-op-ruled}
 use Rattle.shape.proofs.Fitting.{c-stored, long-m, long-1}
 use Rattle.embed_trans.proofs.trans_x.Statement.{statement}
 use Rattle.embed_trans.proofs.trans_x.Tie as tie
@@ -16,9 +17,6 @@ add-nm c = search needs
 
 add-nm1 : tie.Need-add-nm1
 add-nm1 c = search needs
-
-matrix-of-requires : tie.Need-matrix-of-requires
-matrix-of-requires c κs = search needs
 
 mul-trans-op : tie.Need-mul-trans-op
 mul-trans-op c = search needs
@@ -66,7 +64,7 @@ returns c =
     let f = s .pre .0 in
     let like = s .pre .1 .0 in
     let long = s .pre .1 .1 in
-    let first = trans-op-ruled (part n m (k .y .now)) (rw (c .before .before .before .before .before .before .before .before .before .before .before .matrix-of .ensures, places n m) at (c .before .before .before .before .before .before .before .before .trans-op .ensures)) (f .matrix .stored) (long-m like ∙ sym (f .matrix .rows)) (long ∙ sym (f .matrix .cols)) in
+    let first = split-trans-op-ruled (part n m (k .y .now)) (rw (places n m) at (c .before .before .before .before .before .before .before .before .trans-op .ensures)) (f .matrix) (long-m like) (long) in
     let second = op-ruled (part (n + m) 1 (k .y .now)) (rw (c .before .before .before .before .before .column .ensures, places (n + m) 1) at (c .before .before .op .ensures)) (c-stored f) (long-1 like) (omega (arith, c .before .before .before .before .before .before .before .before .trans-op .kept, long)) in
     second ∙ rw first
 
@@ -76,7 +74,6 @@ trans-x-spec =
     (tie.spec
     add-nm
     add-nm1
-    matrix-of-requires
     mul-trans-op
     sub-trans-op
     part-trans-op-start

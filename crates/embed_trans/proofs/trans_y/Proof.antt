@@ -1,12 +1,13 @@
 -- `embed_trans::trans_y` meets its contract.
 use Prim.Native.Nat.{_+_}
 use native.Mathlib.Omega.{arith}
-use mathlib.Core.Path.{sym, _∙_}
+use mathlib.Core.Path.{_∙_}
 use borrow.Author.Needs.{needs}
 use Rattle.rules.specs.Helpers.{one}
 use Rattle.rules.specs.Step.{part}
 use Rattle.rules.proofs.Kernels.{op-ruled}
 use Rattle.rules.proofs.Parts.{places, from-start}
+use Rattle.matop.proofs.ByStorage.{split-op-ruled}
 use Rattle.shape.proofs.Fitting.{b-stored, long-n, long-1}
 use Rattle.embed_trans.proofs.trans_y.Statement.{statement}
 use Rattle.embed_trans.proofs.trans_y.Tie as tie
@@ -16,9 +17,6 @@ add-nm c = search needs
 
 add-nm1 : tie.Need-add-nm1
 add-nm1 c = search needs
-
-matrix-of-requires : tie.Need-matrix-of-requires
-matrix-of-requires c κs = search needs
 
 sub-op : tie.Need-sub-op
 sub-op c = search needs
@@ -63,7 +61,7 @@ returns c =
     let f = s .pre .0 in
     let like = s .pre .1 .0 in
     let long = s .pre .1 .1 in
-    let first = op-ruled (part 0 n (k .y .now)) (rw (c .before .before .before .before .before .before .before .before .before .before .before .matrix-of .ensures, from-start n) at (c .before .before .before .before .before .before .before .before .op .ensures)) (f .matrix .stored) (long-n like ∙ sym (f .matrix .cols)) (long ∙ sym (f .matrix .rows)) in
+    let first = split-op-ruled (part 0 n (k .y .now)) (rw (from-start n) at (c .before .before .before .before .before .before .before .before .op .ensures)) (f .matrix) (long-n like) (long) in
     let second = op-ruled (part (n + m) 1 (k .y .now)) (rw (c .before .before .before .before .before .column .ensures, places (n + m) 1) at (c .before .before .op2 .ensures)) (b-stored f) (long-1 like) (omega (arith, c .before .before .before .before .before .before .before .before .op .kept, long)) in
     second ∙ rw first
 
@@ -73,7 +71,6 @@ trans-y-spec =
     (tie.spec
     add-nm
     add-nm1
-    matrix-of-requires
     sub-op
     part-op-start
     part-op-end

@@ -2,23 +2,24 @@
 use native.Mathlib.Omega.{arith}
 use mathlib.Core.Path.{refl}
 use borrow.Author.Needs.{needs}
+use Rattle.rules.specs.Problem.{slices}
 use Rattle.step.specs.Update.{stateOf}
 use Rattle.iterate.proofs.Outcomes.{Going, going-start, step-counts, step-ends, step-halts, step-more, step-refused}
 use Rattle.iterate.proofs.iterate.Statement.{statement}
 use Rattle.iterate.proofs.iterate.Tie as tie
 
 abbrev Inv-loop : tie.InvT-loop
-Inv-loop par shape c a b words norms behind given x₀ y₀ dp-tau dp-sigma rx₀ tx₀ cone-work₀ left₀ k₀ q₀ x y rx tx cone-work left k q =
-    Going par shape c a b words norms behind given (stateOf x₀ y₀ dp-tau dp-sigma rx₀ tx₀ cone-work₀) k q left (stateOf x y dp-tau dp-sigma rx tx cone-work)
+Inv-loop par shape c a1 a2 b words norms behind given x₀ y₀ dp-tau dp-sigma rx₀ tx₀ cone-work₀ left₀ k₀ q₀ x y rx tx cone-work left k q =
+    Going par shape c (slices a1 a2) b words norms behind given (stateOf x₀ y₀ dp-tau dp-sigma rx₀ tx₀ cone-work₀) k q left (stateOf x y dp-tau dp-sigma rx tx cone-work)
 
 abbrev μ-loop : tie.MeasureT-loop
-μ-loop par shape c a b words norms behind given x₀ y₀ dp-tau dp-sigma rx₀ tx₀ cone-work₀ left₀ k₀ q₀ x y rx tx cone-work left k q = left
+μ-loop par shape c a1 a2 b words norms behind given x₀ y₀ dp-tau dp-sigma rx₀ tx₀ cone-work₀ left₀ k₀ q₀ x y rx tx cone-work left k q = left
 
 loop-holds : tie.Need-loop-holds Inv-loop μ-loop
 loop-holds c = going-start _ _ _ _ _ _ _ _ _ _
 
 add-k : tie.Need-add-k Inv-loop μ-loop
-add-k c = omega (arith, c .loop .inv .running .rest, c .before .before .before .before .before .before .before .before .before .before .before .before .good)
+add-k c = omega (arith, c .loop .inv .running .rest, c .before .before .before .before .before .before .before .before .before .before .before .before .before .good)
 
 whole-step-requires : tie.Need-whole-step-requires Inv-loop μ-loop
 whole-step-requires c κs = search needs
@@ -29,7 +30,7 @@ enum-known-t c = search needs
 add-q : tie.Need-add-q Inv-loop μ-loop
 add-q c =
     let g = c .before .before .before .before .before .before .before .before .before .before .before .before .before .before .before .before .before .before .before .loop .inv .running in
-    omega (arith, step-counts (c .before .before .before .before .before .before .before .before .before .before .before .before .before .before .before .before .before .before .before .loop .inv) (c .before .before .before .before .before .before .before .before .before .before .before .before .before .whole-step .ensures) (c .before .t .given .1), g .within, g .rest, g .least, c .before .before .before .before .before .before .before .before .before .before .before .before .before .before .before .before .before .before .before .before .before .before .before .before .before .before .before .before .before .before .before .good)
+    omega (arith, step-counts (c .before .before .before .before .before .before .before .before .before .before .before .before .before .before .before .before .before .before .before .loop .inv) (c .before .before .before .before .before .before .before .before .before .before .before .before .before .whole-step .ensures) (c .before .t .given .1), g .within, g .rest, g .least, c .before .before .before .before .before .before .before .before .before .before .before .before .before .before .before .before .before .before .before .before .before .before .before .before .before .before .before .before .before .before .before .before .good)
 
 enum-known-v : tie.Need-enum-known-v Inv-loop μ-loop
 enum-known-v c = search needs

@@ -2,6 +2,7 @@
 use mathlib.Core.Path.{sym, _∙_}
 use borrow.Author.Needs.{needs}
 use borrow.Author.Tests.{not-true, not-false}
+use Rattle.rules.specs.Problem.{slices}
 use Rattle.precond.proofs.Fitting.{all-fit}
 use Rattle.precond.proofs.Outcomes.{precond-refused, precond-done}
 use Rattle.precond.proofs.calc_precond.Statement.{statement}
@@ -21,8 +22,8 @@ returns c = precond-refused (sym (c .before .fits2 .ensures) ∙ not-true _ (c .
 
 precond-all-requires : tie.Need-precond-all-requires
 precond-all-requires c κs =
-    let k = c .before .before .before .before .before .before .before .before .before .before .before .before .args in
-    let f = all-fit (k .shape) (k .c .now) (k .a .now) (k .b .now) (k .words .now) (k .par) (k .dp-tau .now) (k .dp-sigma .now) (sym (c .before .before .before .fits2 .ensures) ∙ not-false _ (c .before .before .if1 .left)) in
+    let k = c .before .before .before .before .before .before .before .before .before .before .before .before .before .args in
+    let f = all-fit (k .shape) (k .c .now) (slices (k .a1 .now) (k .a2 .now)) (k .b .now) (k .words .now) (k .dp-tau .now) (k .dp-sigma .now) (sym (c .before .before .before .fits2 .ensures) ∙ not-false _ (c .before .before .if1 .left)) in
     (f .operators, (f .list, (f .like-x, f .like-y)))
 
 same-length-3 : tie.Need-same-length-3

@@ -2,6 +2,7 @@
 use mathlib.Core.Path.{refl, sym, _∙_}
 use borrow.Author.Needs.{needs}
 use borrow.Author.Tests.{not-true, not-false}
+use Rattle.rules.specs.Problem.{slices}
 use Rattle.shape.proofs.Fitting.{like-x}
 use Rattle.precond.proofs.Fitting.{all-fit}
 use Rattle.precond.proofs.Outcomes.{precond-kept, precond-ruled}
@@ -55,9 +56,9 @@ returns-3 c =
 
 start-requires : tie.Need-start-requires
 start-requires c κs =
-    let k = c .before .before .before .before .before .before .before .before .before .before .before .before .before .before .before .before .before .before .before .before .before .before .before .before .args in
+    let k = c .before .before .before .before .before .before .before .before .before .before .before .before .before .before .before .before .before .before .before .before .before .before .before .before .before .args in
     let yes = sym (c .before .before .before .before .before .before .before .calc-precond .ensures .answered) ∙ not-false _ (c .before .before .if3 .left) in
-    let f = all-fit (k .shape) (k .c .now) (k .a .now) (k .b .now) (k .words .now) (k .par) (k .dp-tau .now) (k .dp-sigma .now) yes in
+    let f = all-fit (k .shape) (k .c .now) (slices (k .a1 .now) (k .a2 .now)) (k .b .now) (k .words .now) (k .dp-tau .now) (k .dp-sigma .now) yes in
     (f .operators, like-x (k .shape) (k .x .now) (sym (c .before .before .before .before .before .before .before .before .before .before .before .before .before .before .fits-x .ensures) ∙ not-false _ (c .before .before .before .before .before .before .before .before .before .before .before .before .before .if1 .left)))
 
 same-length-8 : tie.Need-same-length-8

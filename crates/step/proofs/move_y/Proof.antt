@@ -44,7 +44,7 @@ mul-smaller : tie.Need-mul-smaller
 mul-smaller c = search needs
 
 slice-read-smaller : tie.Need-slice-read-smaller
-slice-read-smaller c = omega (arith, c .before .before .before .before .before .before .before .before .before .before .before .before .before .before .before .before .before .before .before .before .before .before .before .before .pre .y-like .is, c .before .before .before .transform-di .kept)
+slice-read-smaller c = omega (arith, c .before .before .before .before .before .before .before .before .before .before .before .before .before .before .before .before .before .before .before .before .before .before .before .before .before .pre .y-like .is, c .before .before .before .transform-di .kept)
 
 smaller-requires : tie.Need-smaller-requires
 smaller-requires c κs = search needs
@@ -53,7 +53,7 @@ mul-y : tie.Need-mul-y
 mul-y c = search needs
 
 slice-write-y : tie.Need-slice-write-y
-slice-write-y c = omega (arith, c .before .before .before .before .before .before .before .before .before .before .before .before .before .before .before .before .before .before .before .before .before .before .before .before .before .pre .y-like .is, c .before .before .before .before .transform-di .kept)
+slice-write-y c = omega (arith, c .before .before .before .before .before .before .before .before .before .before .before .before .before .before .before .before .before .before .before .before .before .before .before .before .before .before .pre .y-like .is, c .before .before .before .before .transform-di .kept)
 
 same-length : tie.Need-same-length
 same-length c = rw length-set (c .before .before .before .before .transform-di .kept .1 .1 .1 .1 .0)
@@ -67,7 +67,7 @@ same-length-3 c = search needs
 returns : tie.Need-returns
 unfolding one
 returns c =
-    y-moved (c .before .before .before .before .before .before .before .before .before .before .before .before .before .before .before .before .before .before .before .before .before .before .before .before .before .pre) (c .before .before .before .before .before .before .before .before .before .before .before .before .before .before .before .add .ensures) (c .before .before .before .before .before .before .before .before .before .before .before .before .before .before .before .add .kept .1 .1 .0) (c .before .before .before .before .before .before .before .before .before .before .op .ensures) (c .before .before .before .before .before .before .before .before .before .before .op .kept .1 .1 .1 .1 .1 .1 .1 .0) (c .before .before .before .before .transform-di .ensures) (c .smaller .ensures)
+    y-moved (c .before .before .before .before .before .before .before .before .before .before .before .before .before .before .before .before .before .before .before .before .before .before .before .before .before .before .pre) (c .before .before .before .before .before .before .before .before .before .before .before .before .before .before .before .add .ensures) (c .before .before .before .before .before .before .before .before .before .before .before .before .before .before .before .add .kept .1 .1 .0) (c .before .before .before .before .before .before .before .before .before .before .op .ensures) (c .before .before .before .before .before .before .before .before .before .before .op .kept .1 .1 .1 .1 .1 .1 .1 .1 .0) (c .before .before .before .before .transform-di .ensures) (c .smaller .ensures)
 
 pub move-y-spec : {M : Type 1} → statement M
 move-y-spec =

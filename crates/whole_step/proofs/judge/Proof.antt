@@ -34,7 +34,7 @@ same-length c = search needs
 
 returns : tie.Need-returns
 returns c =
-    let s = c .before .before .before .before .before .before .before .before .before .before .before .before .before in
+    let s = c .before .before .before .before .before .before .before .before .before .before .before .before .before .before in
     let k = s .args in
     let o = judge-ruled (c .before .before .before .before .before .before .judge .ensures) (judge-fits (s .pre .0) (s .pre .1 .0) (s .pre .1 .1)) in
     (c .says .ensures ∙ ap (verdict (k .par) (k .k) none) (same (sym (c .before .before .j .given .1) ∙ o .0)), o .1)
@@ -44,7 +44,7 @@ same-length-2 c = search needs
 
 returns-2 : tie.Need-returns-2
 returns-2 c =
-    let s = c .before .before .before .before .before .before .before .before .before .before .before in
+    let s = c .before .before .before .before .before .before .before .before .before .before .before .before in
     let o = judge-ruled (c .before .before .before .before .judge .ensures) (judge-fits (s .pre .0) (s .pre .1 .0) (s .pre .1 .1)) in
     never (sym (c .enum-told .given .1) ∙ o .0)
 

@@ -3,7 +3,7 @@ use mathlib.Core.Path.{_≡_, _∙_}
 use lib.ListN.{length}
 use Rattle.rules.specs.Arithmetic.{+0}
 use Rattle.rules.specs.Vectors.{scaled}
-use Rattle.rules.specs.Problem.{lengthX}
+use Rattle.rules.specs.Problem.{lengthX, slices}
 use Rattle.rules.proofs.KernelLengths.{scaled-length}
 use Rattle.precond.proofs.LikeX.{rows-of-columns}
 use borrow.Author.Needs.{needs}
@@ -27,12 +27,12 @@ same-length-2 c = search needs
 
 returns : tie.Need-returns
 returns c =
-    let start = c .before .before .before .before .before .before .before .before .before .before .before .before .before .before .before .before .before .before in
+    let start = c .before .before .before .before .before .before .before .before .before .before .before .before .before .before .before .before .before .before .before in
     let g = start .args in
     let t-length : length (scaled +0 (g .tau .now)) ≡ lengthX (g .shape .rows .0) (g .shape .cols .0) = scaled-length +0 (g .tau .now) ∙ start .pre .1 .0 .is in
     let columns = rw (c .before .before .before .before .before .before .before .before .before .before .before .scale .ensures) at (c .before .before .before .before .before .before .before .column-sums .ensures) in
     let rows = rw columns at (c .before .before .row-sums .ensures) in
-    (columns, rows ∙ rows-of-columns (g .shape) (g .c .now) (g .a .now) (g .b .now) (scaled +0 (g .tau .now)) t-length)
+    (columns, rows ∙ rows-of-columns (g .shape) (g .c .now) (slices (g .a1 .now) (g .a2 .now)) (g .b .now) (scaled +0 (g .tau .now)) t-length)
 
 pub abssum-spec : {M : Type 1} → statement M
 abssum-spec =

@@ -75,7 +75,7 @@ part-sums-tau-end c = search needs
 
 sums-tau-requires : tie.Need-sums-tau-requires
 sums-tau-requires c κs =
-    let start = c .before .before .before .before .before .before .before .before .before .before .before .before .before .before .before .before .before in
+    let start = c .before .before .before .before .before .before .before .before .before .before .before .before .before .before .before .before .before .before in
     (start .pre .0, omega (arith, start .pre, c .sums-tau-arg))
 
 same-length : tie.Need-same-length
@@ -84,15 +84,15 @@ same-length c = omega (arith, c .before .tau4, c .before .before .before .before
 returns : tie.Need-returns
 unfolding sumsX sumsY sumsS sumsTau one
 returns c =
-    let start = c .before .before .before .before .before .before .before .before .before .before .before .before .before .before .before .before .before .before .before .before in
+    let start = c .before .before .before .before .before .before .before .before .before .before .before .before .before .before .before .before .before .before .before .before .before in
     let k = start .args in
     let n = k .shape .cols .0 in
     let m = k .shape .rows .0 in
     let w = k .tau .now in
-    let p = c .before .before .before .before .before .before .before .before .before .before .before .before .before .before .sums-x .last .1 .1 .1 .1 .0 in
-    let q = c .before .before .before .before .before .before .before .before .before .before .sums-y .last .1 .1 .1 .1 .0 in
+    let p = c .before .before .before .before .before .before .before .before .before .before .before .before .before .before .sums-x .last .1 .1 .1 .1 .1 .0 in
+    let q = c .before .before .before .before .before .before .before .before .before .before .sums-y .last .1 .1 .1 .1 .1 .0 in
     let r = c .before .before .before .before .before .before .adds .last .1 .0 in
-    let s = c .before .before .sums-tau .last .1 .1 .1 .1 .0 in
+    let s = c .before .before .sums-tau .last .1 .1 .1 .1 .1 .0 in
     let p-length : length p ≡ n = omega (arith, start .pre, c .before .before .before .before .before .before .before .before .before .before .before .before .before .before .sums-x .kept, c .before .before .before .before .before .before .before .before .before .before .before .before .before .before .before .sums-x-arg) in
     let q-length : length q ≡ m = omega (arith, start .pre, c .before .before .before .before .before .before .before .before .before .before .sums-y .kept, c .before .before .before .before .before .before .before .before .before .before .before .sums-y-arg) in
     let r-length : length r ≡ m = omega (arith, start .pre, c .before .before .before .before .before .before .adds .kept, c .before .before .before .before .before .before .before .adds-arg) in

@@ -1,14 +1,12 @@
 -- `precond::abs_sums::sums_x` meets its contract.
-use mathlib.Core.Path.{sym, _∙_}
-use Rattle.rules.proofs.Kernels.{cols-ruled, rows-ruled}
+use mathlib.Core.Path.{_∙_}
+use Rattle.rules.proofs.Kernels.{rows-ruled}
 use borrow.Author.Needs.{needs}
 use native.Mathlib.Omega.{arith}
+use Rattle.columns.proofs.Whole.{split-cols-ruled}
 use Rattle.shape.proofs.Fitting.{c-stored}
 use Rattle.precond.proofs.abs_sums.sums_x.Statement.{statement}
 use Rattle.precond.proofs.abs_sums.sums_x.Tie as tie
-
-matrix-of-requires : tie.Need-matrix-of-requires
-matrix-of-requires c κs = search needs
 
 absadd-cols-requires : tie.Need-absadd-cols-requires
 absadd-cols-requires c κs = search needs
@@ -28,7 +26,7 @@ returns c =
     let k = s .args in
     let f = s .pre .0 in
     let long = s .pre .1 in
-    let first = cols-ruled (rw (c .before .before .before .before .before .before .before .before .before .matrix-of .ensures) at (c .before .before .before .before .before .before .before .absadd-cols .ensures)) (f .matrix .stored) (long ∙ sym (f .matrix .cols)) in
+    let first = split-cols-ruled (c .before .before .before .before .before .before .before .absadd-cols .ensures) (f .matrix) long in
     let second = rows-ruled (rw (c .before .before .before .before .column .ensures) at (c .before .before .absadd-rows .ensures)) (c-stored f) (omega (arith, c .before .before .before .before .before .before .before .absadd-cols .kept, long)) in
     second ∙ rw first
 
@@ -36,7 +34,6 @@ pub sums-x-spec : {M : Type 1} → statement M
 sums-x-spec =
     tie.close
     (tie.spec
-    matrix-of-requires
     absadd-cols-requires
     column-requires
     absadd-rows-requires

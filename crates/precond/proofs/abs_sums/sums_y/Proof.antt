@@ -1,14 +1,12 @@
 -- `precond::abs_sums::sums_y` meets its contract.
-use mathlib.Core.Path.{sym, _∙_}
+use mathlib.Core.Path.{_∙_}
 use Rattle.rules.proofs.Kernels.{rows-ruled}
 use borrow.Author.Needs.{needs}
 use native.Mathlib.Omega.{arith}
+use Rattle.columns.proofs.Whole.{split-rows-ruled}
 use Rattle.shape.proofs.Fitting.{b-stored}
 use Rattle.precond.proofs.abs_sums.sums_y.Statement.{statement}
 use Rattle.precond.proofs.abs_sums.sums_y.Tie as tie
-
-matrix-of-requires : tie.Need-matrix-of-requires
-matrix-of-requires c κs = search needs
 
 absadd-rows-requires : tie.Need-absadd-rows-requires
 absadd-rows-requires c κs = search needs
@@ -28,7 +26,7 @@ returns c =
     let k = s .args in
     let f = s .pre .0 in
     let long = s .pre .1 in
-    let first = rows-ruled (rw (c .before .before .before .before .before .before .before .before .before .matrix-of .ensures) at (c .before .before .before .before .before .before .before .absadd-rows .ensures)) (f .matrix .stored) (long ∙ sym (f .matrix .rows)) in
+    let first = split-rows-ruled (c .before .before .before .before .before .before .before .absadd-rows .ensures) (f .matrix) long in
     let second = rows-ruled (rw (c .before .before .before .before .column .ensures) at (c .before .before .absadd-rows2 .ensures)) (b-stored f) (omega (arith, c .before .before .before .before .before .before .before .absadd-rows .kept, long)) in
     second ∙ rw first
 
@@ -36,7 +34,6 @@ pub sums-y-spec : {M : Type 1} → statement M
 sums-y-spec =
     tie.close
     (tie.spec
-    matrix-of-requires
     absadd-rows-requires
     column-requires
     absadd-rows-requires-2

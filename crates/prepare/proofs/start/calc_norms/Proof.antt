@@ -1,7 +1,7 @@
 -- `prepare::start::calc_norms` meets its contract.
 use mathlib.Core.Path.{sym, _∙_}
 use Rattle.rules.specs.Prepare.{withB}
-use Rattle.rules.specs.Problem.{embedIn}
+use Rattle.rules.specs.Problem.{embedIn, slices}
 use Rattle.prepare.proofs.Starting.{withB-is, withC-is, norms-of}
 use borrow.Author.Needs.{needs}
 use Rattle.prepare.proofs.start.calc_norms.Statement.{statement}
@@ -18,8 +18,8 @@ same-length c = search needs
 
 returns : tie.Need-returns
 returns c =
-    let g = c .before .before .before .before .before .before .before .before .before .before .before .before .args in
-    let k = embedIn (g .shape) (g .c .now) (g .a .now) (g .b .now) in
+    let g = c .before .before .before .before .before .before .before .before .before .before .before .before .before .args in
+    let k = embedIn (g .shape) (g .c .now) (slices (g .a1 .now) (g .a2 .now)) (g .b .now) in
     let x = g .x .now in
     let first = c .before .before .before .before .before .before .norm-in .ensures .0 ∙ sym (withB-is k x) in
     let second = rw first at (c .before .before .norm-in2 .ensures .0) ∙ sym (withC-is k (withB k x)) in

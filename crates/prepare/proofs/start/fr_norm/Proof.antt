@@ -15,4 +15,9 @@ unfolding frNorm
 returns c = rw (c .root .ensures, c .before .norm .ensures)
 
 pub fr-norm-spec : {M : Type 1} → statement M
-fr-norm-spec = tie.close (tie.spec norm-requires root-requires returns)
+fr-norm-spec =
+    tie.close
+    (tie.spec
+    norm-requires
+    root-requires
+    returns)

@@ -1,7 +1,7 @@
 -- `prepare::start::start` meets its contract.
 use mathlib.Core.Path.{sym, _∙_}
 use borrow.Author.Needs.{needs}
-use Rattle.rules.specs.Problem.{embedIn}
+use Rattle.rules.specs.Problem.{embedIn, slices}
 use Rattle.prepare.proofs.Starting.{startX-is}
 use Rattle.prepare.proofs.start.start.Statement.{statement}
 use Rattle.prepare.proofs.start.start.Tie as tie
@@ -20,8 +20,8 @@ same-length-2 c = search needs
 
 returns : tie.Need-returns
 returns c =
-    let g = c .before .before .before .before .before .before .before .before .before .before .before .before .before .before .before .before .args in
-    let k = embedIn (g .shape) (g .c .now) (g .a .now) (g .b .now) in
+    let g = c .before .before .before .before .before .before .before .before .before .before .before .before .before .before .before .before .before .args in
+    let k = embedIn (g .shape) (g .c .now) (slices (g .a1 .now) (g .a2 .now)) (g .b .now) in
     record {
       norms-are = c .before .before .before .before .before .before .before .before .before .calc-norms .ensures .1;
       x-is = rw (c .before .before .before .before .before .before .before .before .before .calc-norms .ensures .0) at (c .before .before .before .before .init-vecs .ensures .0) ∙ sym (startX-is k (g .x .now));

@@ -7,10 +7,10 @@ use Rattle.replay_problems.proofs.room.fill.Statement.{statement}
 use Rattle.replay_problems.proofs.room.fill.Tie as tie
 
 abbrev Inv-loop : tie.InvT-loop
-Inv-loop «record» numbers₀ at given k₀ i₀ i-end numbers k i = (i ≤ length numbers₀) × (i-end ≡ length numbers₀) × (length numbers ≡ length numbers₀)
+Inv-loop «record» from numbers₀ at given k₀ i₀ i-end numbers k i = (i ≤ length numbers₀) × (i-end ≡ length numbers₀) × (length numbers ≡ length numbers₀)
 
 abbrev μ-loop : tie.MeasureT-loop
-μ-loop «record» numbers₀ at given k₀ i₀ i-end numbers k i = length numbers₀ - i
+μ-loop «record» from numbers₀ at given k₀ i₀ i-end numbers k i = length numbers₀ - i
 
 loop-holds : tie.Need-loop-holds Inv-loop μ-loop
 loop-holds c = search needs

@@ -3,7 +3,7 @@ use Prim.Native.Nat.{_+_, _*_}
 use mathlib.Core.Path.{refl}
 use borrow.Author.Needs.{needs}
 use Rattle.rules.specs.Limits.{limit}
-use Rattle.rules.specs.Problem.{problemIn}
+use Rattle.rules.specs.Problem.{problemIn, slices}
 use Rattle.solver.proofs.Outcomes.{lent, at-zero, left-as}
 use Rattle.solver.proofs.entry.accepted.Statement.{statement}
 use Rattle.solver.proofs.entry.accepted.Tie as tie
@@ -91,10 +91,9 @@ part-run-in-end c = search needs
 
 run-in-requires : tie.Need-run-in-requires
 run-in-requires c κs =
-    let k = c .before .before .before .before .before .before .before .before .before .before .before .before .before .before .before .args in
-    let p = problemIn (k .shape) (k .c .now) (k .a .now) (k .b .now) (k .words .now) (k .par) in
-    let t = c .before .before .before .before .before .before .before .before .before .before .before .before .before .before .before .pre in
-    (lent p (k .work .now) (k .cone-work .now) t _ (c .before .before .before .before .before .before .before .before .cone-work-len .ensures), at-zero (k .shape) (t .ready .operators .m-within) (t .ready .operators .n-within) (3 * limit + 1) (2 * limit + 1) refl refl)
+    let k = c .before .before .before .before .before .before .before .before .before .before .before .before .before .before .before .before .args in
+    let t = c .before .before .before .before .before .before .before .before .before .before .before .before .before .before .before .before .pre in
+    (lent (k .shape) (k .c .now) (slices (k .a1 .now) (k .a2 .now)) (k .b .now) (k .words .now) (k .par) (k .work .now) (k .cone-work .now) t _ (c .before .before .before .before .before .before .before .before .cone-work-len .ensures), at-zero (k .shape) (t .ready .operators .m-within) (t .ready .operators .n-within) (3 * limit + 1) (2 * limit + 1) refl refl)
 
 same-length : tie.Need-same-length
 same-length c = search needs
@@ -104,8 +103,8 @@ same-length-2 c = search needs
 
 returns : tie.Need-returns
 returns c =
-    let k = c .before .before .before .before .before .before .before .before .before .before .before .before .before .before .before .before .before .before .before .before .before .before .before .before .before .before .args in
-    let p = problemIn (k .shape) (k .c .now) (k .a .now) (k .b .now) (k .words .now) (k .par) in
+    let k = c .before .before .before .before .before .before .before .before .before .before .before .before .before .before .before .before .before .before .before .before .before .before .before .before .before .before .before .args in
+    let p = problemIn (k .shape) (k .c .now) (slices (k .a1 .now) (k .a2 .now)) (k .b .now) (k .words .now) (k .par) in
     left-as p (k .work .now) (k .cone-work .now) _ (c .before .before .before .before .before .before .before .before .before .before .before .before .before .before .before .before .before .before .before .cone-work-len .ensures) _ _ _ (c .before .before .before .before .before .before .before .before .before .before .run-in .ensures)
 
 pub accepted-spec : {M : Type 1} → statement M

@@ -1,0 +1,24 @@
+-- `matop::split::trans_op` meets its contract.
+use borrow.Author.Needs.{needs}
+use Rattle.rules.specs.Matrices.{transOpped}
+use Rattle.matop.specs.Operated.{operated}
+use Rattle.matop.proofs.split.trans_op.Statement.{statement}
+use Rattle.matop.proofs.split.trans_op.Tie as tie
+
+operate-requires : tie.Need-operate-requires
+operate-requires c κs = search needs
+
+same-length : tie.Need-same-length
+same-length c = search needs
+
+returns : tie.Need-returns
+unfolding transOpped operated
+returns c = c .before .before .operate .ensures
+
+pub trans-op-spec : {M : Type 1} → statement M
+trans-op-spec =
+    tie.close
+    (tie.spec
+    operate-requires
+    same-length
+    returns)

@@ -1,22 +1,23 @@
--- `transform::transform` meets its contract.
+-- `transform::transform_ge` meets its contract.
 use Prim.Native.Nat.{_-_}
 use mathlib.Core.Path.{_≡_, refl, sym, _∙_}
 use lib.ListN.{length}
 use borrow.Author.Needs.{needs}
 use borrow.Author.Tests.{not-true, not-false}
+use Rattle.rules.specs.declared.MatType.the-variants.{General}
 use Rattle.rules.specs.Arithmetic.{_+ᶠ_, _*ᶠ_}
 use Rattle.rules.specs.Matrices.{entries, product, transformed}
 use Rattle.rules.proofs.Arithmetic.{Reached, reached-none, reached-more, reached-all}
 use Rattle.rules.proofs.Matrices.{Fitting, fitting}
 use Rattle.rules.proofs.Outcome.{refused, done}
-use Rattle.transform.proofs.transform.Statement.{statement}
-use Rattle.transform.proofs.transform.Tie as tie
+use Rattle.transform.proofs.transform_ge.Statement.{statement}
+use Rattle.transform.proofs.transform_ge.Tie as tie
 
 abbrev Inv-loop : tie.InvT-loop
-Inv-loop transpose t alpha mat x beta y₀ r₀ r-end y r = Reached (λ k v. alpha *ᶠ product (entries transpose t mat) x k +ᶠ beta *ᶠ v) r y₀ y × Fitting transpose t mat x y₀ × (r-end ≡ length y₀)
+Inv-loop transpose rows cols alpha mat x beta y₀ r₀ r-end y r = Reached (λ k v. alpha *ᶠ product (entries transpose (General rows cols) mat) x k +ᶠ beta *ᶠ v) r y₀ y × Fitting transpose (General rows cols) mat x y₀ × (r-end ≡ length y₀)
 
 abbrev μ-loop : tie.MeasureT-loop
-μ-loop transpose t alpha mat x beta y₀ r₀ r-end y r = length y₀ - r
+μ-loop transpose rows cols alpha mat x beta y₀ r₀ r-end y r = length y₀ - r
 
 transform-fits-requires : tie.Need-transform-fits-requires Inv-loop μ-loop
 transform-fits-requires c κs = search needs
@@ -63,8 +64,8 @@ unfolding transformed
 returns-2 c = let i = c .before .loop .inv in
     done (i .1 .fits) (reached-all (i .0) (search needs))
 
-pub transform-spec : {M : Type 1} → statement M
-transform-spec =
+pub transform-ge-spec : {M : Type 1} → statement M
+transform-ge-spec =
     tie.close
     (tie.spec
     Inv-loop

@@ -1,0 +1,49 @@
+-- The three parts of a row of a packed matrix, one after the other, are the whole row.
+use Prim.Native.Nat.{ℕ, _+_, _-_, _≤_}
+use native.Mathlib.Omega.{arith}
+use mathlib.Core.Path.{_≡_, refl, ap, _∙_}
+use mathlib.Core.List.{List}
+use lib.Ieee.{Float}
+use lib.ListN.{length, take, drop}
+use Rattle.rules.specs.declared.MatType.the-variants.{SymPack}
+use Rattle.rules.specs.declared.Rows.{Rows}
+use Rattle.rules.specs.Limits.{limit}
+use Rattle.rules.specs.Arithmetic.{_+ᶠ_, _*ᶠ_, +0, sumFrom, each}
+use Rattle.rules.specs.Matrices.{triangle, Stored, place, entry, product}
+use Rattle.rules.proofs.Arithmetic.{sum-same, each-same}
+use Rattle.rules.proofs.Slices.{sum-on}
+use Rattle.rules.proofs.SideBySide.{Lanes, lanes-count}
+use Rattle.packed_transform.specs.Lines.{term, rowOn}
+
+-- what each part asks, of as many rows as there are sums
+pub part-asked : {n : Rows} {mat : List Float} {size w : ℕ} {array sums : List Float} (x : List Float) (r : ℕ) → Stored (SymPack n) mat → length x ≡ n .0 → r + w ≤ n .0 → Lanes size w array sums
+    → (length mat ≡ triangle (length x)) × ((length x ≤ limit) × (r + length (take (w - 0) (drop 0 array)) ≤ length x))
+part-asked {n} {mat} {size} {w} x r s wide rows l = (rw wide (s .all), (rw wide (s .cols), rw (lanes-count l, wide) rows))
+
+module _ (mat x : List Float) (r : ℕ) where
+  parts-join : (soFar : Float) (a b : ℕ) → a ≤ b → rowOn (rowOn soFar mat x r 0 a) mat x r a b ≡ rowOn soFar mat x r 0 b
+  parts-join soFar a b h =
+      let all : a - 0 + (b - a) ≡ b - 0 = omega arith in
+      sum-on soFar (λ j. term mat x r (0 + j)) (λ j. term mat x r (a + j)) (λ j. term mat x r (0 + j)) (a - 0) (b - a) (λ i l. refl) (λ j l. ap (term mat x r) (there j))
+      ∙ ap (λ (k : ℕ). sumFrom soFar k (λ j. term mat x r (0 + j))) all
+    where
+      there : (j : ℕ) → a + j ≡ 0 + (a - 0 + j)
+      there j = omega arith
+
+  whole : (n : Rows) → rowOn +0 mat x r 0 (length x) ≡ product (entry (SymPack n) mat) x r
+  unfolding entry place
+  whole n =
+      let all : length x - 0 ≡ length x = omega arith in
+      rw all (sum-same +0 _ _ (length x) (λ j l. ap (term mat x r) (there j)))
+    where
+      there : (j : ℕ) → 0 + j ≡ j
+      there j = omega arith
+
+  three-join : (n : Rows) (a b : ℕ) → a ≤ b → b ≤ length x → rowOn (rowOn (rowOn +0 mat x r 0 a) mat x r a b) mat x r b (length x) ≡ product (entry (SymPack n) mat) x r
+  three-join n a b h l = rw (parts-join +0 a b h, parts-join +0 b (length x) l) (whole n)
+
+pub rows-join : (n : Rows) (mat x : List Float) (alpha beta : Float) (r w v u : ℕ) (y : List Float) → v ≡ w → u ≡ w → r + w ≤ length x
+    → each (λ k e. alpha *ᶠ rowOn (rowOn (rowOn +0 mat x (r + k) 0 r) mat x (r + k) r (r + v)) mat x (r + k) (r + u) (length x) +ᶠ beta *ᶠ e) y
+    ≡ each (λ k e. alpha *ᶠ product (entry (SymPack n) mat) x (r + k) +ᶠ beta *ᶠ e) y
+rows-join n mat x alpha beta r w v u y v-is u-is inside =
+    rw (v-is, u-is) (each-same _ _ y (λ k l. rw (three-join mat x (r + k) n r (r + w) (omega arith) inside)))

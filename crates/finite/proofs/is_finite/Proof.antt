@@ -1,8 +1,8 @@
--- `checks::is_finite` meets its contract.
+-- `finite::is_finite` meets its contract.
 use lib.Ieee.{neg, div, ofBits}
-use Rattle.checks.proofs.Finite.{finite-below, finite-above}
-use Rattle.checks.proofs.is_finite.Statement.{statement}
-use Rattle.checks.proofs.is_finite.Tie as tie
+use Rattle.finite.proofs.Finite.{finite-below, finite-above}
+use Rattle.finite.proofs.is_finite.Statement.{statement}
+use Rattle.finite.proofs.is_finite.Tie as tie
 
 returns : tie.Need-returns
 unfolding div neg ofBits

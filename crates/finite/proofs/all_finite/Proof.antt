@@ -1,4 +1,4 @@
--- `checks::all_finite` meets its contract.
+-- `finite::all_finite` meets its contract.
 use borrow.Author.Needs.{needs}
 use Prim.Native.Nat.{_-_, _≤_}
 use borrow.Author.Tests.{not-true, not-false}
@@ -7,9 +7,9 @@ use mathlib.Core.Bool.{true, false}
 use lib.ListN.{length, drop}
 use Rattle.rules.specs.Arithmetic.{at}
 use Rattle.rules.specs.Refusals.{isFinite, allFinite}
-use Rattle.checks.proofs.Finite.{finite-more, finite-end}
-use Rattle.checks.proofs.all_finite.Statement.{statement}
-use Rattle.checks.proofs.all_finite.Tie as tie
+use Rattle.finite.proofs.Finite.{finite-more, finite-end}
+use Rattle.finite.proofs.all_finite.Statement.{statement}
+use Rattle.finite.proofs.all_finite.Tie as tie
 
 abbrev Inv-loop : tie.InvT-loop
 Inv-loop v i₀ i-end i = (allFinite (drop i v) ≡ allFinite v) × (i ≤ length v) × (i-end ≡ length v)

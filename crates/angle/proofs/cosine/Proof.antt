@@ -1,10 +1,10 @@
--- `jacobi::cosine` meets its contract.
+-- `angle::cosine` meets its contract.
 use mathlib.Core.Path.{ap, _∙_}
 use borrow.Author.Needs.{needs}
 use Rattle.rules.specs.Helpers.{one, reciprocal}
 use Rattle.rules.specs.Jacobi.{cosine}
-use Rattle.jacobi.proofs.cosine.Statement.{statement}
-use Rattle.jacobi.proofs.cosine.Tie as tie
+use Rattle.angle.proofs.cosine.Statement.{statement}
+use Rattle.angle.proofs.cosine.Tie as tie
 
 root-requires : tie.Need-root-requires
 root-requires c κs = search needs

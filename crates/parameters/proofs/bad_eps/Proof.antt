@@ -1,11 +1,11 @@
--- `checks::bad_eps` meets its contract.
+-- `parameters::bad_eps` meets its contract.
 use borrow.Author.Needs.{needs}
 use borrow.Author.Tests.{not-true, not-false}
 use mathlib.Core.Path.{_≡_, sym, _∙_}
 use mathlib.Core.Bool.{true, false}
 use Rattle.rules.specs.Refusals.{isFinite}
-use Rattle.checks.proofs.bad_eps.Statement.{statement}
-use Rattle.checks.proofs.bad_eps.Tie as tie
+use Rattle.parameters.proofs.bad_eps.Statement.{statement}
+use Rattle.parameters.proofs.bad_eps.Tie as tie
 
 is-finite-requires : tie.Need-is-finite-requires
 is-finite-requires c κs = search needs

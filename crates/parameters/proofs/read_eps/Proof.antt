@@ -1,9 +1,9 @@
--- `checks::read_eps` meets its contract.
+-- `parameters::read_eps` meets its contract.
 use mathlib.Core.Path.{_∙_}
 use borrow.Author.Needs.{needs}
-use Rattle.checks.proofs.Read.{read-zero, read-other}
-use Rattle.checks.proofs.read_eps.Statement.{statement}
-use Rattle.checks.proofs.read_eps.Tie as tie
+use Rattle.parameters.proofs.Read.{read-zero, read-other}
+use Rattle.parameters.proofs.read_eps.Statement.{statement}
+use Rattle.parameters.proofs.read_eps.Tie as tie
 
 with-eps-zero-requires : tie.Need-with-eps-zero-requires
 with-eps-zero-requires c κs = search needs

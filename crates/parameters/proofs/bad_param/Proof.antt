@@ -1,13 +1,13 @@
--- `checks::bad_param` meets its contract.
+-- `parameters::bad_param` meets its contract.
 use borrow.Author.Needs.{needs}
 use borrow.Author.Tests.{lt-ltb, le-ltb, le-leb, lt-leb}
 use mathlib.Core.Path.{_≡_, sym, _∙_}
 use mathlib.Core.Bool.{true, false}
 use Rattle.rules.specs.Limits.{mostSteps, mostSweeps}
 use Rattle.rules.specs.Refusals.{badEps, badTolerance, badParam}
-use Rattle.checks.proofs.Finite.{above}
-use Rattle.checks.proofs.bad_param.Statement.{statement}
-use Rattle.checks.proofs.bad_param.Tie as tie
+use Rattle.parameters.proofs.Above.{above}
+use Rattle.parameters.proofs.bad_param.Statement.{statement}
+use Rattle.parameters.proofs.bad_param.Tie as tie
 
 bad-eps-requires : tie.Need-bad-eps-requires
 bad-eps-requires c κs = search needs

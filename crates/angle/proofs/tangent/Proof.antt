@@ -1,9 +1,9 @@
--- `jacobi::tangent` meets its contract.
+-- `angle::tangent` meets its contract.
 use borrow.Author.Needs.{needs}
 use Rattle.rules.specs.Helpers.{one}
-use Rattle.jacobi.proofs.Angles.{tangent-above, tangent-else}
-use Rattle.jacobi.proofs.tangent.Statement.{statement}
-use Rattle.jacobi.proofs.tangent.Tie as tie
+use Rattle.angle.proofs.Zeta.{tangent-above, tangent-else}
+use Rattle.angle.proofs.tangent.Statement.{statement}
+use Rattle.angle.proofs.tangent.Tie as tie
 
 root-requires : tie.Need-root-requires
 root-requires c κs = search needs

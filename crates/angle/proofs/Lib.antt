@@ -1,0 +1,2 @@
+pub mod Zeta
+pub mod Coincide

@@ -24,6 +24,11 @@ pub struct Case {
     pub words: Vec<u16>,
 }
 
+fn unknown(word: &str) -> ! {
+    eprintln!("no such problem: {word}");
+    std::process::exit(2)
+}
+
 impl Case {
     fn new(form: Form, n: usize, m: usize, psd: usize) -> Case {
         let mut words = Vec::new();
@@ -39,14 +44,14 @@ impl Case {
     /// vi, dense:N:M, split:N:M, packed:N or psd:N:PLACES.
     pub fn read(word: &str) -> Case {
         let parts: Vec<&str> = word.split(':').collect();
-        let size = |k: usize| parts.get(k).and_then(|s| s.parse().ok()).unwrap_or_else(|| panic!("no such problem: {word}"));
+        let size = |k: usize| parts.get(k).and_then(|s| s.parse().ok()).unwrap_or_else(|| unknown(word));
         match parts[0] {
             "vi" => Case::new(Form::Dense, 64, 128, 45),
             "dense" => Case::new(Form::Dense, size(1), size(2), 0),
             "split" => Case::new(Form::Split, size(1), size(2), 0),
             "packed" => Case::new(Form::Packed, size(1), size(1), 0),
             "psd" => Case::new(Form::Dense, size(1), size(2), size(2)),
-            _ => panic!("no such problem: {word}"),
+            _ => unknown(word),
         }
     }
 

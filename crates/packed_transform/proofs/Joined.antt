@@ -12,7 +12,7 @@ use Rattle.rules.specs.Arithmetic.{_+ᶠ_, _*ᶠ_, +0, sumFrom, each}
 use Rattle.rules.specs.Matrices.{triangle, Stored, place, entry, product}
 use Rattle.rules.proofs.Arithmetic.{sum-same, each-same}
 use Rattle.rules.proofs.Slices.{sum-on}
-use Rattle.rules.proofs.SideBySide.{Lanes, lanes-count}
+use Rattle.side_by_side.proofs.SideBySide.{Lanes, lanes-count}
 use Rattle.packed_transform.specs.Lines.{term, rowOn}
 
 -- what each part asks, of as many rows as there are sums

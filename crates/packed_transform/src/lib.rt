@@ -7,7 +7,7 @@ ghost use mathlib.Core.Path.{_≡_};
 ghost use mathlib.Core.Bool.{false};
 ghost use lib.ListN.{length};
 ghost use Rattle.rules.specs.Limits.{limit};
-ghost use Rattle.rules.specs.Arithmetic.{_+ᶠ_, _*ᶠ_, at, each};
+ghost use Rattle.rules.specs.Arithmetic.{_+ᶠ_, _*ᶠ_, each};
 ghost use Rattle.rules.specs.Outcome.{Outcome};
 ghost use Rattle.rules.specs.Matrices.{triangle, Stored, transformFits, packedPlace, entry, product, transformed};
 ghost use Rattle.rules.specs.declared.MatType.the-variants.{SymPack};
@@ -68,7 +68,7 @@ fn eight_rows(n: Rows, alpha: f64, mat: &[f64], x: &[f64], beta: f64, y: &mut [f
     left_of(&mut sums[0..8], mat, x, r);
     across(&mut sums[0..8], mat, x, r);
     right_of(&mut sums[0..8], mat, x, r);
-    put_sums(alpha, &sums[0..8], beta, y);
+    side_by_side::put_sums(alpha, &sums[0..8], beta, y);
 }
 
 // The product of row r, in the same way.
@@ -88,7 +88,7 @@ fn one_row(n: Rows, alpha: f64, mat: &[f64], x: &[f64], beta: f64, y: &mut [f64]
     left_of(&mut sums[0..1], mat, x, r);
     across(&mut sums[0..1], mat, x, r);
     right_of(&mut sums[0..1], mat, x, r);
-    put_sums(alpha, &sums[0..1], beta, y);
+    side_by_side::put_sums(alpha, &sums[0..1], beta, y);
 }
 
 // Rows r, r + 1 and so on times x, over the columns before r, each added to its sum so far.
@@ -160,15 +160,5 @@ fn place(r: usize, c: usize) -> usize
         triangle(c) + r
     } else {
         triangle(r) + c
-    }
-}
-
-// y becomes alpha * sums + beta * y.
-fn put_sums(alpha: f64, sums: &[f64], beta: f64, y: &mut [f64])
-    requires { ⌜ length (now sums) ≡ length (now y) ⌝ }
-    ensures { λ _. ⌜ now (y .exit) ≡ each (λ k v. alpha *ᶠ at (now (sums .entry)) k +ᶠ beta *ᶠ v) (now (y .entry)) ⌝ }
-{
-    for k in 0..y.len() {
-        y[k] = alpha * sums[k] + beta * y[k];
     }
 }

@@ -133,7 +133,7 @@ fn halved(m: u64) -> u64
     lo
 }
 
-// Whether q * (q + 1) is at least m * 2^52. The product is too wide, but cut at 52 digits it is not: with q = h * 2^27 + l it is
+// Whether q * (q + 1) is at least m * 2^52. The product is too wide, but without its lowest 52 digits it is not: with q = h * 2^27 + l it is
 // h * h * 2^54 + h * (2 * l + 1) * 2^27 + l * (l + 1).
 fn enough(q: u64, m: u64) -> bool
     requires { ⌜ q < 2 ^ 53 ⌝ }

@@ -28,5 +28,4 @@ pub mod Projections
 pub mod ConeProduct
 pub mod Kernels
 pub mod Parts
-pub mod SideBySide
 pub mod WorkedByHand

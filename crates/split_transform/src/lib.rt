@@ -6,7 +6,7 @@ ghost use mathlib.Core.Path.{_≡_};
 ghost use mathlib.Core.List.{_++_};
 ghost use lib.ListN.{length};
 ghost use Rattle.rules.specs.Limits.{limit};
-ghost use Rattle.rules.specs.Arithmetic.{_+ᶠ_, _*ᶠ_, at, each};
+ghost use Rattle.rules.specs.Arithmetic.{_+ᶠ_, _*ᶠ_, each};
 ghost use Rattle.rules.specs.Outcome.{Outcome};
 ghost use Rattle.rules.specs.Matrices.{entry, entries, transposed, product, transformed};
 ghost use Rattle.rules.specs.Split.{splitTransformFits, SplitStored};
@@ -150,7 +150,7 @@ fn rows_at(
     let mut sums = [0.0; 8];
     rows_on(&mut sums[0..w], rows, factory, &x[0..n1], r);
     rows_on(&mut sums[0..w], rows, lesson, &x[n1..], r);
-    put_sums(alpha, &sums[0..w], beta, y);
+    side_by_side::put_sums(alpha, &sums[0..w], beta, y);
 }
 
 // Rows r, r + 1 and so on of the columns of one slice times x, each added to its sum so far.
@@ -243,7 +243,7 @@ fn columns_at(rows: Rows, alpha: f64, mat: &[f64], x: &[f64], beta: f64, y: &mut
     let w = y.len();
     let mut sums = [0.0; 8];
     columns_on(&mut sums[0..w], rows, mat, x, c);
-    put_sums(alpha, &sums[0..w], beta, y);
+    side_by_side::put_sums(alpha, &sums[0..w], beta, y);
 }
 
 // Columns c, c + 1 and so on of one slice times x, each added to its sum so far.
@@ -261,15 +261,5 @@ fn columns_on(sums: &mut [f64], rows: Rows, mat: &[f64], x: &[f64], c: usize)
         for k in 0..sums.len() {
             sums[k] = sums[k] + mat[(c + k) * m + r] * x[r];
         }
-    }
-}
-
-// y becomes alpha * sums + beta * y.
-fn put_sums(alpha: f64, sums: &[f64], beta: f64, y: &mut [f64])
-    requires { ⌜ length (now sums) ≡ length (now y) ⌝ }
-    ensures { λ _. ⌜ now (y .exit) ≡ each (λ k v. alpha *ᶠ at (now (sums .entry)) k +ᶠ beta *ᶠ v) (now (y .entry)) ⌝ }
-{
-    for k in 0..y.len() {
-        y[k] = alpha * sums[k] + beta * y[k];
     }
 }

@@ -1,4 +1,4 @@
-// The products of floatgeneric.rs with a dense matrix, stored by columns, over one entry rule.
+// The products of floatgeneric.rs with a dense matrix in one slice, stored by columns: one row of it after another, or of it transposed.
 use rules::Cols;
 use rules::MatType;
 use rules::Rows;

@@ -9,7 +9,7 @@ use Rattle.rules.specs.Arithmetic.{_+ᶠ_, _*ᶠ_}
 use Rattle.rules.specs.Matrices.{entry, product, transformed}
 use Rattle.rules.proofs.Arithmetic.{Reached, reached-none, reached-all}
 use Rattle.rules.proofs.Parts.{part-places}
-use Rattle.rules.proofs.SideBySide.{reached-part}
+use Rattle.side_by_side.proofs.SideBySide.{reached-part}
 use Rattle.packed_transform.proofs.packed_rows.Statement.{statement}
 use Rattle.packed_transform.proofs.packed_rows.Tie as tie
 

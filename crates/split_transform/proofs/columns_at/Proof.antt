@@ -2,7 +2,7 @@
 use borrow.Author.Needs.{needs}
 use native.Mathlib.Omega.{arith}
 use mathlib.Core.Path.{refl, _∙_}
-use Rattle.rules.proofs.SideBySide.{lanes-start, lanes-count, lanes-on, sums-put}
+use Rattle.side_by_side.proofs.SideBySide.{lanes-start, lanes-count, lanes-on, sums-put}
 use Rattle.split_transform.proofs.columns_at.Statement.{statement}
 use Rattle.split_transform.proofs.columns_at.Tie as tie
 
@@ -42,7 +42,7 @@ returns : tie.Need-returns
 returns c =
     let k = c .before .before .before .before .before .before .before .before .before .before .before .before .args in
     let l = lanes-on (lanes-start 8 _ (c .before .before .before .before .before .before .before .before .before .before .before .before .pre .1 .1 .1)) _ _ (c .before .before .before .before .before .before .before .columns-on .ensures) in
-    c .before .before .put-sums .ensures ∙ sums-put (k .alpha) (k .beta) _ _ (k .y .now) _ refl (l .are)
+    sums-put (k .alpha) (k .beta) _ _ (k .y .now) _ refl (l .are) (c .before .before .put-sums .ensures)
 
 pub columns-at-spec : {M : Type 1} → statement M
 columns-at-spec =

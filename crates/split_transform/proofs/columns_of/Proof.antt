@@ -10,7 +10,7 @@ use Rattle.rules.specs.Limits.{limit}
 use Rattle.rules.specs.Arithmetic.{_+ᶠ_, _*ᶠ_}
 use Rattle.rules.proofs.Arithmetic.{Reached, reached-none, reached-all}
 use Rattle.rules.proofs.Parts.{part-places}
-use Rattle.rules.proofs.SideBySide.{reached-part}
+use Rattle.side_by_side.proofs.SideBySide.{reached-part}
 use native.Mathlib.Nat.{mul-comm, mul-le-mul-right}
 use Rattle.split_transform.specs.Lines.{columnOf}
 use Rattle.split_transform.proofs.columns_of.Statement.{statement}

@@ -6,7 +6,7 @@ use mathlib.Core.Path.{_≡_, refl}
 use lib.ListN.{length}
 use Rattle.rules.specs.Arithmetic.{_+ᶠ_, _*ᶠ_, at}
 use Rattle.rules.proofs.Arithmetic.{Reached, reached-none, reached-more, reached-all}
-use Rattle.rules.proofs.SideBySide.{SummedEach, summed-each-none, summed-each-more, summed-each-all}
+use Rattle.side_by_side.proofs.SideBySide.{SummedEach, summed-each-none, summed-each-more, summed-each-all}
 use Rattle.rules.proofs.Slices.{column-ends}
 use native.Mathlib.Nat.{mul-comm}
 use Rattle.split_transform.proofs.columns_on.Statement.{statement}

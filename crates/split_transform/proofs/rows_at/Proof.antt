@@ -2,7 +2,7 @@
 use borrow.Author.Needs.{needs}
 use native.Mathlib.Omega.{arith}
 use mathlib.Core.Path.{refl, _∙_}
-use Rattle.rules.proofs.SideBySide.{each-after, lanes-start, lanes-count, lanes-on, sums-put}
+use Rattle.side_by_side.proofs.SideBySide.{each-after, lanes-start, lanes-count, lanes-on, sums-put}
 use Rattle.split_transform.proofs.Slices.{x₁-length, x₂-length, first-fits, rest-fits, rows-run-on}
 use Rattle.split_transform.proofs.rows_at.Statement.{statement}
 use Rattle.split_transform.proofs.rows_at.Tie as tie
@@ -82,8 +82,7 @@ returns c =
     let p = c .before .before .before .before .before .before .before .before .before .before .before .before .before .before .before .before .before .before .pre in
     let k = c .before .before .before .before .before .before .before .before .before .before .before .before .before .before .before .before .before .before .args in
     let l = lanes-on (lanes-on (lanes-start 8 _ (c .before .before .before .before .before .before .before .before .before .before .before .before .before .before .before .before .before .before .pre .1 .1 .1)) _ _ (c .before .before .before .before .before .before .before .before .before .before .before .rows-on .ensures)) _ _ (c .before .before .before .before .before .before .before .rows-on2 .ensures) in
-    c .before .before .put-sums .ensures
-    ∙ sums-put (k .alpha) (k .beta) _ _ (k .y .now) _ refl (l .are ∙ each-after _ _ _)
+    sums-put (k .alpha) (k .beta) _ _ (k .y .now) _ refl (l .are ∙ each-after _ _ _) (c .before .before .put-sums .ensures)
     ∙ rows-run-on (p .0) (k .x .now) (k .alpha) (k .beta) (k .r) (k .y .now) (p .1 .0) (p .1 .1 .0)
 
 pub rows-at-spec : {M : Type 1} → statement M

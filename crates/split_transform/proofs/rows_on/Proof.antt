@@ -8,7 +8,7 @@ use lib.Ieee.{Float}
 use lib.ListN.{length, set}
 use Rattle.rules.specs.Arithmetic.{_+ᶠ_, _*ᶠ_, at}
 use Rattle.rules.proofs.Arithmetic.{Reached, reached-none, reached-more, reached-all}
-use Rattle.rules.proofs.SideBySide.{SummedEach, summed-each-none, summed-each-more, summed-each-all}
+use Rattle.side_by_side.proofs.SideBySide.{SummedEach, summed-each-none, summed-each-more, summed-each-all}
 use Rattle.rules.proofs.Slices.{column-ends}
 use Rattle.split_transform.proofs.rows_on.Statement.{statement}
 use Rattle.split_transform.proofs.rows_on.Tie as tie

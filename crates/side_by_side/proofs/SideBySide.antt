@@ -3,14 +3,19 @@ use Prim.Native.Nat.{ℕ, zero, suc, _+_, _-_, _<_, _≤_}
 use native.Mathlib.Nat.{sub-self}
 use native.Mathlib.Omega.{arith}
 use mathlib.Core.Path.{_≡_, refl, sym, ap, _∙_}
+use mathlib.Core.Bool.{Bool}
 use mathlib.Core.List.{List, [], _∷_, _++_}
 use lib.Ieee.{Float, nan}
 use lib.ListN.{length, take, drop, replicate, length-replicate, getD-replicate}
 use lib.Seq.{take-add, length-take-le}
+use borrow.Author.Tests.{eq-eqb}
+use Rattle.rules.specs.Outcome.{Outcome}
+use Rattle.rules.specs.Vectors.{sameLength}
+use Rattle.rules.proofs.Outcome.{ruled-if-fits}
 use Rattle.rules.specs.Arithmetic.{_+ᶠ_, _*ᶠ_, +0, at, sumFrom, eachTo, each}
 use Rattle.rules.proofs.Arithmetic.{sum-none, sum-more, each-length, each-at, each-is, each-same, eachTo-length, Reached}
 use Rattle.rules.proofs.Parts.{put, places, from-start, zeros-part, put-length, put-part, next-lent, next-put}
 use Rattle.rules.proofs.Slices.{each-on}
 
 -- every place, and then every place again
 pub each-after : (f g : ℕ → Float → Float) (xs : List Float) → each g (each f xs) ≡ each (λ k v. g k (f k v)) xs
@@ -99,9 +104,13 @@ lanes-on {n} {w} {array} {sums} l f back is =
     }
 
 -- y gets them
-pub sums-put : (alpha beta : Float) (f : ℕ → Float → Float) (w : ℕ) (y s : List Float) → length y ≡ w → s ≡ each f (replicate w +0) → each (λ k v. alpha *ᶠ at s k +ᶠ beta *ᶠ v) y ≡ each (λ k v. alpha *ᶠ f k +0 +ᶠ beta *ᶠ v) y
-sums-put alpha beta f w y s high is =
-    each-same _ _ y
+pub sums-put : (alpha beta : Float) (f : ℕ → Float → Float) (w : ℕ) (y s : List Float) {r : Bool} {y' : List Float} → length y ≡ w → s ≡ each f (replicate w +0)
+    → Outcome (sameLength s y) (each (λ k v. alpha *ᶠ at s k +ᶠ beta *ᶠ v) y) y r y'
+    → y' ≡ each (λ k v. alpha *ᶠ f k +0 +ᶠ beta *ᶠ v) y
+sums-put alpha beta f w y s high is put =
+    let as-many : length s ≡ length y = ap length is ∙ each-length f _ ∙ length-replicate w +0 ∙ sym high in
+    ruled-if-fits put (eq-eqb _ _ as-many)
+    ∙ each-same _ _ y
     (λ k l.
     let below : k < w = omega arith in
     let sum : at s k ≡ f k +0 = ap (λ v. at v k) is ∙ each-at f (replicate w +0) k (rw length-replicate below) ∙ ap (f k) (getD-replicate w k +0 nan below) in

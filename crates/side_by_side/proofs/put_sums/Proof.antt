@@ -1,22 +1,27 @@
--- `packed_transform::put_sums` meets its contract.
+-- `side_by_side::put_sums` meets its contract.
 use borrow.Author.Needs.{needs}
 use Prim.Native.Nat.{_-_}
 use mathlib.Core.Path.{_≡_, refl}
 use lib.ListN.{length}
 use Rattle.rules.specs.Arithmetic.{_+ᶠ_, _*ᶠ_, at}
+use borrow.Author.Tests.{eq-eqb, ne-eqb}
+use Rattle.rules.proofs.Outcome.{refused, done}
 use Rattle.rules.proofs.Arithmetic.{Reached, reached-none, reached-more, reached-all}
-use Rattle.packed_transform.proofs.put_sums.Statement.{statement}
-use Rattle.packed_transform.proofs.put_sums.Tie as tie
+use Rattle.side_by_side.proofs.put_sums.Statement.{statement}
+use Rattle.side_by_side.proofs.put_sums.Tie as tie
 
 abbrev Inv-loop : tie.InvT-loop
 Inv-loop alpha sums beta y₀ k₀ k-end y k =
-    Reached (λ i v. alpha *ᶠ at sums i +ᶠ beta *ᶠ v) k y₀ y × (k-end ≡ length y₀)
+    Reached (λ i v. alpha *ᶠ at sums i +ᶠ beta *ᶠ v) k y₀ y × (length sums ≡ length y₀) × (k-end ≡ length y₀)
 
 abbrev μ-loop : tie.MeasureT-loop
 μ-loop alpha sums beta y₀ k₀ k-end y k = length y₀ - k
 
+returns : tie.Need-returns Inv-loop μ-loop
+returns c = refused (ne-eqb _ _ (c .if1 .taken))
+
 loop-holds : tie.Need-loop-holds Inv-loop μ-loop
-loop-holds c = (reached-none _ _, refl)
+loop-holds c = (reached-none _ _, search needs, refl)
 
 mul-y : tie.Need-mul-y Inv-loop μ-loop
 mul-y c = search needs
@@ -43,13 +48,13 @@ loop-less : tie.Need-loop-less Inv-loop μ-loop
 loop-less c = search needs
 
 loop-again : tie.Need-loop-again Inv-loop μ-loop
-loop-again c = (reached-more (c .before .before .before .loop .inv .0) (search needs), search needs)
+loop-again c = (reached-more (c .before .before .before .loop .inv .0) (search needs), search needs, search needs)
 
 same-length : tie.Need-same-length Inv-loop μ-loop
 same-length c = search needs
 
-returns : tie.Need-returns Inv-loop μ-loop
-returns c = reached-all (c .before .loop .inv .0) (search needs)
+returns-2 : tie.Need-returns-2 Inv-loop μ-loop
+returns-2 c = done (eq-eqb _ _ (c .before .loop .inv .1)) (reached-all (c .before .loop .inv .0) (search needs))
 
 pub put-sums-spec : {M : Type 1} → statement M
 put-sums-spec =
@@ -57,6 +62,7 @@ put-sums-spec =
     (tie.spec
     Inv-loop
     μ-loop
+    returns
     loop-holds
     mul-y
     shared-slice-read-y
@@ -68,4 +74,4 @@ put-sums-spec =
     loop-less
     loop-again
     same-length
-    returns)
+    returns-2)

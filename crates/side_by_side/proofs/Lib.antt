@@ -1,0 +1,2 @@
+pub mod SideBySide
+pub mod Coincide

@@ -1,2 +1,1 @@
 pub mod Zeta
-pub mod Coincide

@@ -1,2 +1,1 @@
 pub mod SideBySide
-pub mod Coincide

@@ -1,5 +1,4 @@
 // What the products share that add up several sums side by side.
-ghost use mathlib.Core.Path.{_≡_};
 ghost use Rattle.rules.specs.Arithmetic.{_+ᶠ_, _*ᶠ_, at, each};
 ghost use Rattle.rules.specs.Outcome.{Outcome};
 ghost use Rattle.rules.specs.Vectors.{sameLength};

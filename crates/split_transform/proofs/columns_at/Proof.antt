@@ -1,7 +1,7 @@
 -- `split_transform::columns_at` meets its contract.
 use borrow.Author.Needs.{needs}
 use native.Mathlib.Omega.{arith}
-use mathlib.Core.Path.{refl, _∙_}
+use mathlib.Core.Path.{refl}
 use Rattle.side_by_side.proofs.SideBySide.{lanes-start, lanes-count, lanes-on, sums-put}
 use Rattle.split_transform.proofs.columns_at.Statement.{statement}
 use Rattle.split_transform.proofs.columns_at.Tie as tie

@@ -2,17 +2,21 @@
 use Prim.Native.Nat.{ℕ, _+_, _-_, _≤_}
 use native.Mathlib.Omega.{arith}
 use mathlib.Core.Path.{_≡_, refl, ap, _∙_}
+use mathlib.Core.Bool.{Bool}
 use mathlib.Core.List.{List}
 use lib.Ieee.{Float}
-use lib.ListN.{length, take, drop}
+use lib.ListN.{length, take, drop, replicate}
 use Rattle.rules.specs.declared.MatType.the-variants.{SymPack}
 use Rattle.rules.specs.declared.Rows.{Rows}
 use Rattle.rules.specs.Limits.{limit}
-use Rattle.rules.specs.Arithmetic.{_+ᶠ_, _*ᶠ_, +0, sumFrom, each}
+use Rattle.rules.specs.Arithmetic.{_+ᶠ_, _*ᶠ_, +0, at, sumFrom, each}
+use Rattle.rules.specs.Outcome.{Outcome}
+use Rattle.rules.specs.Vectors.{sameLength}
 use Rattle.rules.specs.Matrices.{triangle, Stored, place, entry, product}
 use Rattle.rules.proofs.Arithmetic.{sum-same, each-same}
+use Rattle.rules.proofs.Parts.{put}
 use Rattle.rules.proofs.Slices.{sum-on}
-use Rattle.side_by_side.proofs.SideBySide.{Lanes, lanes-count}
+use Rattle.side_by_side.proofs.SideBySide.{each-after, Lanes, lanes-start, lanes-count, lanes-on, sums-put}
 use Rattle.packed_transform.specs.Lines.{term, rowOn}
 
 -- what each part asks, of as many rows as there are sums
@@ -42,8 +46,29 @@ module _ (mat x : List Float) (r : ℕ) where
   three-join : (n : Rows) (a b : ℕ) → a ≤ b → b ≤ length x → rowOn (rowOn (rowOn +0 mat x r 0 a) mat x r a b) mat x r b (length x) ≡ product (entry (SymPack n) mat) x r
   three-join n a b h l = rw (parts-join +0 a b h, parts-join +0 b (length x) l) (whole n)
 
-pub rows-join : (n : Rows) (mat x : List Float) (alpha beta : Float) (r w v u : ℕ) (y : List Float) → v ≡ w → u ≡ w → r + w ≤ length x
-    → each (λ k e. alpha *ᶠ rowOn (rowOn (rowOn +0 mat x (r + k) 0 r) mat x (r + k) r (r + v)) mat x (r + k) (r + u) (length x) +ᶠ beta *ᶠ e) y
-    ≡ each (λ k e. alpha *ᶠ product (entry (SymPack n) mat) x (r + k) +ᶠ beta *ᶠ e) y
-rows-join n mat x alpha beta r w v u y v-is u-is inside =
-    rw (v-is, u-is) (each-same _ _ y (λ k l. rw (three-join mat x (r + k) n r (r + w) (omega arith) inside)))
+-- As many sums as there are places of y stand at the front of an array of +0, are lent to each part in turn, and are put into y: then y has the products of the rows.
+module _ (n : Rows) (mat x : List Float) (r size w : ℕ) (few : w ≤ size) (back back₂ back₃ : List Float) where
+  abbrev lent : List Float → List Float
+  lent array = take (w - 0) (drop 0 array)
+
+  abbrev array : List Float
+  array = put 0 w (replicate size +0) back
+
+  abbrev array₂ : List Float
+  array₂ = put 0 w array back₂
+
+  abbrev array₃ : List Float
+  array₃ = put 0 w array₂ back₃
+
+  pub rows-put : (alpha beta : Float) (y : List Float) {done : Bool} {y' : List Float} → length x ≡ n .0 → length y ≡ w → r + w ≤ n .0
+      → back ≡ each (λ k so-far. rowOn so-far mat x (r + k) 0 r) (lent (replicate size +0))
+      → back₂ ≡ each (λ k so-far. rowOn so-far mat x (r + k) r (r + length (lent array))) (lent array)
+      → back₃ ≡ each (λ k so-far. rowOn so-far mat x (r + k) (r + length (lent array₂)) (length x)) (lent array₂)
+      → Outcome (sameLength (lent array₃) y) (each (λ k v. alpha *ᶠ at (lent array₃) k +ᶠ beta *ᶠ v) y) y done y'
+      → y' ≡ each (λ k v. alpha *ᶠ product (entry (SymPack n) mat) x (r + k) +ᶠ beta *ᶠ v) y
+  rows-put alpha beta y wide high rows left across right put-all =
+      let l = lanes-on (lanes-start size w few) _ back left in
+      let l₂ = lanes-on l _ back₂ across in
+      let l₃ = lanes-on l₂ _ back₃ right in
+      sums-put alpha beta _ w y (lent array₃) high (l₃ .are ∙ ap (each _) (each-after _ _ _) ∙ each-after _ _ _) put-all
+      ∙ rw (lanes-count l, lanes-count l₂) (each-same _ _ y (λ k h. rw (three-join mat x (r + k) n r (r + w) (omega arith) (rw wide rows))))

@@ -1,10 +1,8 @@
 -- `packed_transform::one_row` meets its contract.
 use borrow.Author.Needs.{needs}
 use native.Mathlib.Omega.{arith}
-use mathlib.Core.Path.{ap, _∙_}
-use Rattle.rules.specs.Arithmetic.{each}
-use Rattle.side_by_side.proofs.SideBySide.{each-after, lanes-start, lanes-count, lanes-on, sums-put}
-use Rattle.packed_transform.proofs.Joined.{part-asked, rows-join}
+use Rattle.side_by_side.proofs.SideBySide.{lanes-start, lanes-on}
+use Rattle.packed_transform.proofs.Joined.{part-asked, rows-put}
 use Rattle.packed_transform.proofs.one_row.Statement.{statement}
 use Rattle.packed_transform.proofs.one_row.Tie as tie
 
@@ -78,9 +76,11 @@ returns : tie.Need-returns
 returns c =
     let p = c .before .before .before .before .before .before .before .before .before .before .before .before .before .before .before .before .before .before .pre in
     let v = c .before .before .before .before .before .before .before .before .before .before .before .before .before .before .before .before .before .before .args in
-    let l = lanes-on (lanes-on (lanes-on (lanes-start 1 1 (omega arith)) _ _ (c .before .before .before .before .before .before .before .before .before .before .before .before .before .left-of .ensures)) _ _ (c .before .before .before .before .before .before .before .before .before .before .across .ensures)) _ _ (c .before .before .before .before .before .before .before .right-of .ensures) in
-    sums-put (v .alpha) (v .beta) _ 1 (v .y .now) _ (p .1 .1 .0) (l .are ∙ ap (each _) (each-after _ _ _) ∙ each-after _ _ _) (c .before .before .put-sums .ensures)
-    ∙ rows-join (v .n) (v .mat .now) (v .x .now) (v .alpha) (v .beta) (v .r) 1 _ _ (v .y .now) (lanes-count (lanes-on (lanes-start 1 1 (omega arith)) _ _ (c .before .before .before .before .before .before .before .before .before .before .before .before .before .left-of .ensures))) (lanes-count (lanes-on (lanes-on (lanes-start 1 1 (omega arith)) _ _ (c .before .before .before .before .before .before .before .before .before .before .before .before .before .left-of .ensures)) _ _ (c .before .before .before .before .before .before .before .before .before .before .across .ensures))) (omega (arith, p .1 .0, p .1 .1 .1))
+    rows-put (v .n) (v .mat .now) (v .x .now) (v .r) 1 1 (omega arith) _ _ _ (v .alpha) (v .beta) (v .y .now) (p .1 .0) (p .1 .1 .0) (omega (arith, p .1 .1 .1))
+    (c .before .before .before .before .before .before .before .before .before .before .before .before .before .left-of .ensures)
+    (c .before .before .before .before .before .before .before .before .before .before .across .ensures)
+    (c .before .before .before .before .before .before .before .right-of .ensures)
+    (c .before .before .put-sums .ensures)
 
 pub one-row-spec : {M : Type 1} → statement M
 one-row-spec =

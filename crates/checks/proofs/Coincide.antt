@@ -8,7 +8,7 @@ use Rattle.rules.specs.declared.Refusal.{Refusal}
 use Rattle.rules.specs.declared.Rows.{Rows}
 use Rattle.rules.specs.declared.SolverParam.{SolverParam}
 use Rattle.rules.specs.declared.Storage.{Storage}
-use Rattle.rules.specs.Problem.{problemOf, asRead}
+use Rattle.rules.specs.Problem.{problemOf}
 use Rattle.rules.specs.Refusals.{refusal}
 use Rattle.rules.specs.Split.{SplitProblem, splitRefusal}
 use Rattle.rules.proofs.Outcome.{results-coincide}
@@ -21,6 +21,3 @@ any-two-checks-coincide par rows cols storage c a b words work cone r r' p q = r
 
 pub any-two-split-checks-coincide : (p : SplitProblem) (work cone : ℕ) (r r' : Refusal) → r ≡ splitRefusal p work cone → r' ≡ splitRefusal p work cone → r ≡ r'
 any-two-split-checks-coincide p work cone r r' e f = results-coincide e f
-
-pub any-two-readings-coincide : (par r r' : SolverParam) → r ≡ asRead par → r' ≡ asRead par → r ≡ r'
-any-two-readings-coincide par r r' p q = results-coincide p q

@@ -1,4 +1,3 @@
 pub mod Finite
 pub mod Refused
-pub mod Read
 pub mod Coincide

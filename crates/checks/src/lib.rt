@@ -1,9 +1,8 @@
 // When the hub is turned away: the six tests, in order. Sizes are bounded before any arithmetic on them.
+use finite::all_finite;
 use rules::Cols;
 use rules::Ending;
 use rules::LIMIT;
-use rules::MOST_STEPS;
-use rules::MOST_SWEEPS;
 use rules::MOST_WORDS;
 use rules::Refusal;
 use rules::Rows;
@@ -14,8 +13,8 @@ use shape::operators_fit;
 ghost use Prim.Native.Nat.{_≤_};
 ghost use mathlib.Core.Path.{_≡_};
 ghost use Rattle.rules.specs.Limits.{limit};
-ghost use Rattle.rules.specs.Refusals.{isFinite, allFinite, badEps, badParam, largeSizes, someNotFinite, shortBuffers, refusal};
-ghost use Rattle.rules.specs.Problem.{problemOf, slices, joined, asRead};
+ghost use Rattle.rules.specs.Refusals.{largeSizes, someNotFinite, shortBuffers, refusal};
+ghost use Rattle.rules.specs.Problem.{problemOf, slices, joined};
 ghost use Rattle.rules.specs.Split.{splitOf, splitRefusal};
 ghost use Rattle.checks.specs.Parts.{partsRefusal};
 
@@ -100,7 +99,7 @@ fn check_parts(
 {
     let m = shape.rows.0;
     let n = shape.cols.0;
-    let param_is_bad = bad_param(par);
+    let param_is_bad = parameters::bad_param(par);
     let size_is_too_large = too_large(m, n, words);
     if param_is_bad {
         return Refusal::Refused(Ending::BadParam);
@@ -123,47 +122,6 @@ fn check_parts(
         return Refusal::Refused(Ending::WorkShortage);
     }
     Refusal::Accepted
-}
-
-fn is_finite(x: f64) -> bool
-    ensures { λ r. ⌜ r ≡ isFinite x ⌝ }
-{
-    let infinity = 1.0 / 0.0;
-    if x < infinity { -infinity < x } else { false }
-}
-
-// Not finite, or below zero; -0 is not below.
-fn bad_eps(eps: f64) -> bool
-    ensures { λ r. ⌜ r ≡ badEps eps ⌝ }
-{
-    if !is_finite(eps) {
-        return true;
-    }
-    eps < 0.0
-}
-
-fn bad_param(par: SolverParam) -> bool
-    ensures { λ r. ⌜ r ≡ badParam par ⌝ }
-{
-    let eps_acc = par.eps_acc;
-    let eps_inf = par.eps_inf;
-    let eps_zero = par.eps_zero;
-    if bad_eps(eps_acc) {
-        return true;
-    }
-    if bad_eps(eps_inf) {
-        return true;
-    }
-    if bad_eps(eps_zero) {
-        return true;
-    }
-    if par.max_iter > MOST_STEPS {
-        return true;
-    }
-    if par.sweep_limit < 1 {
-        return true;
-    }
-    par.sweep_limit > MOST_SWEEPS
 }
 
 fn too_large(m: usize, n: usize, words: &[u16]) -> bool
@@ -197,17 +155,6 @@ fn not_finite(c: &[f64], a1: &[f64], a2: &[f64], b: &[f64]) -> bool
     !all_finite(b)
 }
 
-fn all_finite(v: &[f64]) -> bool
-    ensures { λ r. ⌜ r ≡ allFinite (now (v .entry)) ⌝ }
-{
-    for i in 0..v.len() {
-        if !is_finite(v[i]) {
-            return false;
-        }
-    }
-    true
-}
-
 fn work_shortage(m: usize, n: usize, words: &[u16], work: usize, cone_work: usize) -> bool
     requires { ⌜ (m ≤ limit) × (n ≤ limit) ⌝ }
     ensures { λ r. ⌜ r ≡ shortBuffers m n (now (words .entry)) work «cone_work» ⌝ }
@@ -216,14 +163,4 @@ fn work_shortage(m: usize, n: usize, words: &[u16], work: usize, cone_work: usiz
         return true;
     }
     cone_work < words::cone_work_len(words)
-}
-
-// An eps_zero of -0 is read as +0.
-pub fn read_eps(par: SolverParam) -> SolverParam
-    ensures { λ r. ⌜ r ≡ asRead par ⌝ }
-{
-    if par.eps_zero == 0.0 {
-        return SolverParam::with_eps_zero(par, 0.0);
-    }
-    par
 }

@@ -1,60 +1,17 @@
--- The angle of a rotation and the test for it, as the code works them out.
+-- The angle of a rotation and the test for it, of the three entries that decide them.
 use Prim.Native.Nat.{ℕ}
-use mathlib.Core.Path.{_≡_, sym, _∙_, ap}
-use mathlib.Core.Bool.{Bool, true, false, cond}
+use mathlib.Core.Path.{_≡_}
+use mathlib.Core.Bool.{_&&_}
 use mathlib.Core.List.{List}
-use lib.Ieee.{Float, binary64, ofBits, lt, neg}
-use Rattle.rules.specs.Helpers.{one}
-use Rattle.rules.specs.Root.{root}
-use Rattle.rules.specs.Arithmetic.{_+ᶠ_, _-ᶠ_, _*ᶠ_, _/ᶠ_, +0}
-use Rattle.rules.specs.Jacobi.{inPacked, two, hypotenuse, tangent, isRotated}
-use Rattle.rules.proofs.Projections.{two-is}
+use lib.Ieee.{Float, lt}
+use Rattle.rules.specs.Arithmetic.{_*ᶠ_}
+use Rattle.rules.specs.Jacobi.{inPacked, tangent, isRotated}
 use Rattle.jacobi.specs.Loops.{CornersOf}
 
--- the rule's zeta, and the code's
-abbrev ruled : Float → Float → Float → Float
-ruled a b d = (b -ᶠ a) /ᶠ (two *ᶠ d)
-
-abbrev zeta : Float → Float → Float → Float
-zeta a b d = (b -ᶠ a) /ᶠ (ofBits binary64 0x4000_0000_0000_0000 *ᶠ d)
-
-zeta-is : (a b d : Float) → zeta a b d ≡ ruled a b d
-zeta-is a b d = ap (λ (t : Float). (b -ᶠ a) /ᶠ (t *ᶠ d)) two-is
-
-tangent-by : (a b d : Float) (t : Bool) → lt +0 (ruled a b d) ≡ t → tangent a b d ≡ cond t (one /ᶠ (ruled a b d +ᶠ hypotenuse (ruled a b d))) (neg one /ᶠ (neg (ruled a b d) +ᶠ hypotenuse (ruled a b d)))
-unfolding tangent
-tangent-by a b d t e =
-    ap (λ (u : Bool). cond u (one /ᶠ (ruled a b d +ᶠ hypotenuse (ruled a b d))) (neg one /ᶠ (neg (ruled a b d) +ᶠ hypotenuse (ruled a b d)))) e
-
-module _ (a b d h : Float) (is-root : h ≡ root binary64 (one +ᶠ zeta a b d *ᶠ zeta a b d)) where
-  root-is : h ≡ hypotenuse (ruled a b d)
-  root-is = is-root ∙ ap hypotenuse (zeta-is a b d)
-
-  pub tangent-above : lt +0 (zeta a b d) ≡ true → one /ᶠ (zeta a b d +ᶠ h) ≡ tangent a b d
-  tangent-above t =
-      ap (λ (v : Float). one /ᶠ (v +ᶠ h)) (zeta-is a b d)
-      ∙ ap (λ (v : Float). one /ᶠ (ruled a b d +ᶠ v)) root-is
-      ∙ sym (tangent-by a b d true (ap (λ (v : Float). lt +0 v) (sym (zeta-is a b d)) ∙ t))
-
-  pub tangent-else : lt +0 (zeta a b d) ≡ false → neg one /ᶠ (neg (zeta a b d) +ᶠ h) ≡ tangent a b d
-  tangent-else t =
-      ap (λ (v : Float). neg one /ᶠ (neg v +ᶠ h)) (zeta-is a b d)
-      ∙ ap (λ (v : Float). neg one /ᶠ (neg (ruled a b d) +ᶠ v)) root-is
-      ∙ sym (tangent-by a b d false (ap (λ (v : Float). lt +0 v) (sym (zeta-is a b d)) ∙ t))
-
--- the angle and the test, of the three entries
 module _ {n i j : ℕ} {x : List Float} {a b d : Float} (e : CornersOf n i j x a b d) where
   pub tangent-read : tangent a b d ≡ tangent (inPacked n x i i) (inPacked n x j j) (inPacked n x i j)
   tangent-read = rw (e .first, e .second, e .shared)
 
-  pub test-on : (tol : Float) → lt (tol *ᶠ a *ᶠ b) (d *ᶠ d) ≡ true → lt tol (d *ᶠ d) ≡ isRotated n tol i j x
+  pub test-read : (tol : Float) → (lt (tol *ᶠ a *ᶠ b) (d *ᶠ d) && lt tol (d *ᶠ d)) ≡ isRotated n tol i j x
   unfolding isRotated
-  test-on tol t =
-      let t' : lt (tol *ᶠ inPacked n x i i *ᶠ inPacked n x j j) (inPacked n x i j *ᶠ inPacked n x i j) ≡ true = rw (e .first, e .second, e .shared) at t in
-      rw (e .shared, t')
-
-  pub test-off : (tol : Float) → lt (tol *ᶠ a *ᶠ b) (d *ᶠ d) ≡ false → false ≡ isRotated n tol i j x
-  unfolding isRotated
-  test-off tol t =
-      let t' : lt (tol *ᶠ inPacked n x i i *ᶠ inPacked n x j j) (inPacked n x i j *ᶠ inPacked n x i j) ≡ false = rw (e .first, e .second, e .shared) at t in
-      rw t'
+  test-read tol = rw (e .first, e .second, e .shared)

@@ -110,25 +110,6 @@ fn rotate_matrix(n: usize, i: usize, j: usize, c: f64, s: f64, x: &mut [f64])
     x[ij] = 0.0;
 }
 
-// The tangent of the angle that makes d, the entry of row i and column j, vanish.
-fn tangent(a: f64, b: f64, d: f64) -> f64
-    ensures { λ t. ⌜ t ≡ rules.tangent a b d ⌝ }
-{
-    let zeta = (b - a) / (2.0 * d);
-    let root = root::root(1.0 + zeta * zeta);
-    if zeta > 0.0 {
-        1.0 / (zeta + root)
-    } else {
-        -1.0 / (-zeta + root)
-    }
-}
-
-fn cosine(t: f64) -> f64
-    ensures { λ c. ⌜ c ≡ rules.cosine t ⌝ }
-{
-    float::reciprocal(root::root(1.0 + t * t))
-}
-
 // One rotation of matrix and vectors.
 fn rotate(n: usize, i: usize, j: usize, x: &mut [f64], z: &mut [f64])
     requires { ⌜ IsPacked n (now x) ⌝ }
@@ -137,8 +118,8 @@ fn rotate(n: usize, i: usize, j: usize, x: &mut [f64], z: &mut [f64])
     ensures { λ _. ⌜ state (now (x .exit)) (now (z .exit)) 1 ≡ rotated n i j (state (now (x .entry)) (now (z .entry)) 0) ⌝ }
 {
     let m = read_corners(n, i, j, x);
-    let t = tangent(m.a, m.b, m.d);
-    let c = cosine(t);
+    let t = angle::tangent(m.a, m.b, m.d);
+    let c = angle::cosine(t);
     let s = c * t;
     rotate_matrix(n, i, j, c, s, x);
     rotate_vectors(n, i, j, c, s, z);
@@ -151,10 +132,7 @@ fn is_rotated(n: usize, tol: f64, i: usize, j: usize, x: &[f64]) -> bool
     ensures { λ r. ⌜ r ≡ isRotated n tol i j (now (x .entry)) ⌝ }
 {
     let m = read_corners(n, i, j, x);
-    let a = m.a;
-    let b = m.b;
-    let d = m.d;
-    d * d > tol * a * b && d * d > tol
+    angle::is_large(tol, m.a, m.b, m.d)
 }
 
 // One pair. This and the next two take the rotations that were made before, and return those made so far.

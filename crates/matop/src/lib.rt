@@ -63,7 +63,7 @@ pub(crate) fn operate(
             beta,
             y,
         ),
-        MatType::SymPack(rows) => transform::transform_sp(rows, alpha, mat, x, beta, y),
+        MatType::SymPack(rows) => packed_transform::transform_sp(rows, alpha, mat, x, beta, y),
     }
 }
 

@@ -99,7 +99,7 @@ fn operate(
             if a2.len() != 0 {
                 return false;
             }
-            transform::transform_sp(rows, alpha, a1, x, beta, y)
+            packed_transform::transform_sp(rows, alpha, a1, x, beta, y)
         }
     }
 }

@@ -35,7 +35,7 @@ fn run(routine: Routine, first: &[f64], second: &[f64], y: &mut [f64]) -> bool {
             beta,
             y,
         ),
-        Routine::TransformSp(rows, alpha, beta) => transform::transform_sp(
+        Routine::TransformSp(rows, alpha, beta) => packed_transform::transform_sp(
             rows,
             alpha,
             first,

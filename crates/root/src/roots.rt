@@ -38,7 +38,7 @@ fn root_of_normal(x: f64, b: u64) -> f64
     let places = b / 4503599627370496 + 1073;
     let k = places / 2 - 26;
     let m = (4503599627370496 + b % 4503599627370496) * (1 + places % 2);
-    let g = guess(x, b);
+    let g = guess(x, b, k);
     if is_root(g, m, k) {
         g
     } else {
@@ -60,33 +60,29 @@ fn root_of_low(b: u64) -> f64
     root_by_halving(t * (1 + places % 2), places / 2 - 26)
 }
 
-// A guess at the root of x, whose pattern is b. The pattern gives y, which is 1/√x to 3.5 %, and a polynomial makes of it f, so that
-// s = x * y * f is the root to 39 digits and y * f / 2 is 1/(2 * √x). One step by the error of s then gives the last digits: with
-// s = c + u, where c is short enough that c * c is exact, s + (x - s * s) / (2 * s) comes to c + (x - c * c + u * u) / (2 * s).
-fn guess(x: f64, b: u64) -> f64
+// A guess at the root of x, whose pattern is b; k is as above. The pattern gives y, which is 1/√x to 3.5 %, and a polynomial makes of it
+// f, so that s = x * y * (1 + r * f) is the root to 44 digits and h is 1/(2 * √x). One step by the error of s then gives the last digits:
+// with s = c + u, s + (x - s * s) / (2 * s) comes to c + (x - c * c + u * u) / (2 * s). The first half of f is enough for c, which needs
+// to be near s, and so short that c * c is exact: adding `cut` rounds it to 26 digits.
+fn guess(x: f64, b: u64, k: u64) -> f64
     requires { ⌜ b < 2047 * 2 ^ 52 ⌝ }
+    requires { ⌜ k < 2000 ⌝ }
 {
     let y = f64::from_bits(6910469410427058089 - b / 2);
+    let cut = f64::from_bits((k + 28) * 4503599627370496);
     let t = x * y;
     let r = 1.0 - t * y;
     let rr = r * r;
-    let low = (0.5000000000017186 + r * 0.3750000022047503)
-        + rr * (0.3124999932718242 + r * 0.2734337276310497);
-    let high = (0.24609646123592888 + r * 0.22719872423730225) + rr * 0.20992340033545645;
-    let f = 1.0 + r * (low + (rr * rr) * high);
-    mended(x, t * f, 0.5 * y * f)
-}
-
-// The last step of the guess: s as above, and h for 1/(2 * √x). c has the 26 leading digits of s.
-fn mended(x: f64, s: f64, h: f64) -> f64 {
-    if s == s {
-        let b = f64::to_bits(s);
-        let c = f64::from_bits(b - b % 134217728);
-        let u = s - c;
-        c + ((x - c * c) + u * u) * h
-    } else {
-        s
-    }
+    let low = (0.4999999999993127 + r * 0.37500000000670625)
+        + rr * (0.3125000047184989 + r * 0.2734374887158461);
+    let high = (0.24608868884920057 + r * 0.22558923784722862)
+        + rr * (0.21120885106417195 + r * 0.1968714914306137);
+    let f = low + (rr * rr) * high;
+    let c = ((t + (t * r) * low) + cut) - cut;
+    let s = t + (t * r) * f;
+    let h = 0.5 * y + (0.5 * y * r) * f;
+    let u = s - c;
+    c + ((x - c * c) + u * u) * h
 }
 
 // Whether g is the root of m * 2^52 * 4^k squares of the least value.
@@ -137,7 +133,7 @@ fn halved(m: u64) -> u64
     lo
 }
 
-// Whether q * (q + 1) is at least m * 2^52. The product is too wide, but cut at 52 digits it is not: with q = h * 2^27 + l it is
+// Whether q * (q + 1) is at least m * 2^52. The product is too wide, but without its lowest 52 digits it is not: with q = h * 2^27 + l it is
 // h * h * 2^54 + h * (2 * l + 1) * 2^27 + l * (l + 1).
 fn enough(q: u64, m: u64) -> bool
     requires { ⌜ q < 2 ^ 53 ⌝ }

@@ -1,13 +1,14 @@
 -- Laws of a buffer of which a part is lent and comes back, and of parts that are lent in order from the front until all are new.
-use Prim.Native.Nat.{ℕ, _+_, _-_, _≤_}
+use Prim.Native.Nat.{ℕ, zero, suc, _+_, _-_, _≤_}
 use native.Mathlib.Nat.{add-sub-cancel-left}
 use native.Mathlib.Omega.{arith}
-use mathlib.Core.Path.{_≡_, ap, _∙_}
-use mathlib.Core.List.{List, _++_, append-assoc, append-nil}
+use mathlib.Core.Path.{_≡_, refl, ap, _∙_}
+use mathlib.Core.List.{List, _∷_, _++_, append-assoc, append-nil}
 use lib.Ieee.{Float}
-use lib.ListN.{length, take, drop, length-append, length-drop, drop-of-length-le}
+use lib.ListN.{length, take, drop, replicate, length-append, length-drop, drop-of-length-le}
 use lib.Seq.{take-at, drop-at, drop-drop, length-take-le}
 use borrow.Rule.Slice.PartMut.{drop-put}
+use Rattle.rules.specs.Arithmetic.{+0}
 use Rattle.rules.specs.Step.{part}
 
 -- what a list is after the part from place a to place e was lent and came back as ys
@@ -24,10 +25,22 @@ from-start e = omega arith
 pub part-length : (a k : ℕ) (w : List Float) → a + k ≤ length w → length (part a k w) ≡ k
 part-length a k w h = length-take-le k (drop a w) (rw length-drop (omega arith))
 
+pub part-places : (a k : ℕ) (w : List Float) → a + k ≤ length w → length (take (a + k - a) (drop a w)) ≡ k
+part-places a k w h = rw (places a k) (part-length a k w h)
+
 pub drop-rest : (a e : ℕ) (w : List Float) → a ≤ e → drop (e - a) (drop a w) ≡ drop e w
 drop-rest a e w h =
     let i : a + (e - a) ≡ e = omega arith in
     rw (drop-drop (e - a) a w, i)
+
+-- the first places of a list of zeros
+pub zeros-part : (k l : ℕ) → k ≤ l → take (k - 0) (drop 0 (replicate l +0)) ≡ replicate k +0
+zeros-part k l h = rw (from-start k) (go k l h)
+  where
+    go : (i j : ℕ) → i ≤ j → take i (replicate j +0) ≡ replicate i +0
+    go zero j h = refl
+    go (suc i) zero h = absurd (omega arith)
+    go (suc i) (suc j) h = ap (λ v. +0 ∷ v) (go i j (omega arith))
 
 -- ---- any part: it comes back new, and a part that shares no place with it stays
 

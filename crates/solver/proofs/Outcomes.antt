@@ -1,10 +1,10 @@
 -- What the entry point's branches say: a problem turned away, and an accepted one as the run reads it.
-use Prim.Native.Nat.{ℕ, zero, suc, _+_, _-_, _*_, _≤_}
+use Prim.Native.Nat.{ℕ, _+_, _-_, _*_, _≤_}
 use native.Mathlib.Nat.{mul-zero, sub-self}
 use native.Mathlib.Omega.{arith}
-use mathlib.Core.Path.{_≡_, refl, sym, _∙_, ap}
+use mathlib.Core.Path.{_≡_, refl, sym, _∙_}
 use mathlib.Core.Bool.{true}
-use mathlib.Core.List.{List, [], _∷_, _++_, append-nil}
+use mathlib.Core.List.{List, [], _++_, append-nil}
 use borrow.Author.Tests.{le-leb, eq-eqb}
 use lib.Ieee.{Float}
 use lib.ListN.{length, take, drop, replicate}
@@ -22,7 +22,6 @@ use Rattle.rules.specs.Blocks.{blocksOf}
 use Rattle.rules.specs.Projections.{sweepsFit}
 use Rattle.rules.specs.Product.{coneWork}
 use Rattle.rules.specs.Problem.{Problem, Slices, slices, asRead, blocks, matrixOf, lengthX, lengthY, problemOf, problemIn}
-use Rattle.rules.specs.Prepare.{zeros}
 use Rattle.rules.specs.Run.{leftBy}
 use Rattle.rules.specs.declared.Refusal.{Refusal}
 use Rattle.rules.specs.declared.Refusal.the-variants.{Accepted, Refused}
@@ -31,7 +30,7 @@ use Rattle.rules.specs.Split.{SplitProblem, splitOf, slicesFit, joinedProblem, 
 use Rattle.rules.proofs.SplitRuns.{same-refusal, split-runs-as-joined, slices-fit-if-accepted}
 use Rattle.rules.proofs.Accepted.{AllFits, accepted-fits}
 use Rattle.rules.proofs.OldContents.{solved-accepted}
-use Rattle.rules.proofs.Parts.{put, from-start}
+use Rattle.rules.proofs.Parts.{put, from-start, zeros-part}
 use Rattle.shape.specs.Fitting.{partsIn, partsFit}
 use Rattle.shape.proofs.Fitting.{sized-of}
 use Rattle.solver.specs.Solve.{turnedAwayBy, Taken, LeftAs, Lent, AtZero, RanIn}
@@ -154,14 +153,6 @@ pub left-as : (p : Problem) (work cone : List Float) (needed : ℕ) → needed �
 unfolding leftBy
 left-as p work cone needed e answer work' cone' r =
     record { answered = r .answered; work-left = r .work-is; cone-left = rw (from-start needed, e, r .cone-is) }
-
-zeros-part : (k l : ℕ) → k ≤ l → take (k - 0) (drop 0 (replicate l +0)) ≡ zeros k
-zeros-part k l h = rw (from-start k) (go k l h)
-  where
-    go : (i j : ℕ) → i ≤ j → take i (replicate j +0) ≡ replicate i +0
-    go zero j h = refl
-    go (suc i) zero h = absurd (omega arith)
-    go (suc i) (suc j) h = ap (λ v. +0 ∷ v) (go i j (omega arith))
 
 pub at-zero : (shape : Shape) → shape .rows .0 ≤ limit → shape .cols .0 ≤ limit → (longX longY : ℕ) → longX ≡ 3 * limit + 1 → longY ≡ 2 * limit + 1
     → (let x = take (lengthX (shape .rows .0) (shape .cols .0) - 0) (drop 0 (replicate longX +0)) in let y = take (lengthY (shape .rows .0) (shape .cols .0) - 0) (drop 0 (replicate longY +0)) in AtZero shape x y x y x x)

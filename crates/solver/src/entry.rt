@@ -62,7 +62,7 @@ pub fn solve(
                 first: cols,
             };
             accepted(
-                checks::read_eps(par),
+                parameters::read_eps(par),
                 shape,
                 c,
                 a,
@@ -120,7 +120,7 @@ pub fn solve_split<'a>(
                 first,
             };
             accepted(
-                checks::read_eps(par),
+                parameters::read_eps(par),
                 shape,
                 c,
                 factory,

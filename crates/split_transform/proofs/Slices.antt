@@ -1,7 +1,7 @@
 -- Products of a dense matrix in two slices: a row's sum runs on from the first into the second, and a column stands in one of them.
-use Prim.Native.Nat.{ℕ, _+_, _-_, _*_, _<_}
+use Prim.Native.Nat.{ℕ, _+_, _-_, _*_, _<_, _≤_}
 use native.Mathlib.Omega.{arith}
-use mathlib.Core.Path.{_≡_, sym, ap, _∙_}
+use mathlib.Core.Path.{_≡_, refl, sym, ap, _∙_}
 use mathlib.Core.Bool.{Bool, true}
 use mathlib.Core.List.{List, _++_}
 use borrow.Author.Tests.{eqb-true}
@@ -11,10 +11,11 @@ use lib.Seq.{take-all, getD-take, getD-drop, length-take-le}
 use Rattle.rules.specs.declared.MatType.the-variants.{General}
 use Rattle.rules.specs.declared.Rows.{Rows}
 use Rattle.rules.specs.declared.Cols.{Cols}
-use Rattle.rules.specs.Arithmetic.{_*ᶠ_, +0, at, sumFrom, each}
+use Rattle.rules.specs.Limits.{limit}
+use Rattle.rules.specs.Arithmetic.{_+ᶠ_, _*ᶠ_, +0, at, sumFrom, each}
 use Rattle.rules.specs.Matrices.{width, height, entry, transposed, product, transformed}
 use Rattle.rules.specs.Split.{splitTransformFits, SplitStored}
-use Rattle.rules.proofs.Arithmetic.{sum-same}
+use Rattle.rules.proofs.Arithmetic.{sum-same, each-same}
 use Rattle.rules.proofs.Matrices.{both-true}
 use Rattle.rules.proofs.Parts.{put, from-start, lent-rest, put-2}
 use Rattle.rules.proofs.Slices.{split-stored, sum-on, each-on, columns-all, first-number, rest-number}
@@ -40,7 +41,7 @@ module _ {rows : Rows} {cols first : Cols} {factory lesson : List Float} (s : Sp
   pub rest-fits : length x ≡ cols .0 → length lesson ≡ rows .0 * length x₂
   rest-fits long = s .rest-long ∙ ap (λ (k : ℕ). rows .0 * k) (sym (x₂-length long))
 
-  pub row-runs-on : (r : ℕ) → length x ≡ cols .0 → r < rows .0 → (soFar : Float) → soFar ≡ rowOn +0 (rows .0) factory x₁ r
+  row-runs-on : (r : ℕ) → length x ≡ cols .0 → r < rows .0 → (soFar : Float) → soFar ≡ rowOn +0 (rows .0) factory x₁ r
       → rowOn soFar (rows .0) lesson x₂ r ≡ product (entry (General rows cols) (factory ++ lesson)) x r
   unfolding entry
   row-runs-on r long hr soFar is =
@@ -59,6 +60,13 @@ module _ {rows : Rows} {cols first : Cols} {factory lesson : List Float} (s : Sp
       in-rest c hc =
           let same : at x₂ c ≡ at x (first .0 + c) = getD-take (length x - first .0) (drop (first .0) x) c nan (omega arith) ∙ getD-drop (first .0) x c nan in
           rw (rest-number s r c, same)
+
+  -- so do several rows side by side
+  pub rows-run-on : (alpha beta : Float) (r : ℕ) (y : List Float) → length x ≡ cols .0 → r + length y ≤ rows .0
+      → each (λ k v. alpha *ᶠ rowOn (rowOn +0 (rows .0) factory x₁ (r + k)) (rows .0) lesson x₂ (r + k) +ᶠ beta *ᶠ v) y
+      ≡ each (λ k v. alpha *ᶠ product (entry (General rows cols) (factory ++ lesson)) x (r + k) +ᶠ beta *ᶠ v) y
+  rows-run-on alpha beta r y long inside =
+      each-same _ _ y (λ k l. rw (row-runs-on (r + k) long (omega arith) _ refl))
 
   -- a column of the first slice, and one of the second
   column-in-first : (c : ℕ) → length x ≡ rows .0 → c < first .0 → columnOf (rows .0) factory x c ≡ product (transposed (entry (General rows cols) (factory ++ lesson))) x c
@@ -79,6 +87,9 @@ module _ {rows : Rows} {cols first : Cols} {factory lesson : List Float} (s : Sp
     rest-lent-fits =
         let all : length (drop (first .0) y) ≡ cols .0 - first .0 = rw (length-drop, high) in
         rw (rest-lent, all) (s .rest-long)
+
+    pub rest-lent-within : length (take (cols .0 - first .0) (drop (first .0) (put 0 (first .0) y p))) ≤ limit
+    rest-lent-within = rw (rest-lent, length-drop, high) (omega (arith, s .n-within))
 
     pub columns-put : (alpha beta : Float) (q : List Float) → length x ≡ rows .0
         → p ≡ columnsOf alpha (rows .0) factory x beta (take (first .0 - 0) (drop 0 y))

@@ -6,11 +6,12 @@ ghost use mathlib.Core.Path.{_≡_};
 ghost use mathlib.Core.List.{_++_};
 ghost use lib.ListN.{length};
 ghost use Rattle.rules.specs.Limits.{limit};
+ghost use Rattle.rules.specs.Arithmetic.{_+ᶠ_, _*ᶠ_, each};
 ghost use Rattle.rules.specs.Outcome.{Outcome};
 ghost use Rattle.rules.specs.Matrices.{entry, entries, transposed, product, transformed};
 ghost use Rattle.rules.specs.Split.{splitTransformFits, SplitStored};
 ghost use Rattle.rules.specs.declared.MatType.the-variants.{General};
-ghost use Rattle.split_transform.specs.Lines.{rowOn, columnOf, columnsOf};
+ghost use Rattle.split_transform.specs.Lines.{rowOn, columnOn, columnOf, columnsOf};
 
 // The product with the matrix, or with the matrix transposed.
 pub fn transform_split(
@@ -46,7 +47,7 @@ pub fn transform_split(
     true
 }
 
-// The products of its rows.
+// The products of its rows: eight side by side, and what is left four or one.
 fn split_rows(
     rows: Rows,
     cols: Cols,
@@ -67,45 +68,109 @@ fn split_rows(
         (now (x .entry)) beta (now (y .entry))
         ⌝ }
 {
-    for r in 0..y.len() {
-        y[r] = alpha * row_at(rows, cols, first, factory, lesson, x, r) + beta * y[r];
+    let m = rows.0;
+    let mut r: usize = 0;
+    while r < m {
+        if r + 8 <= m {
+            rows_at(
+                rows,
+                cols,
+                first,
+                alpha,
+                factory,
+                lesson,
+                x,
+                beta,
+                &mut y[r..r + 8],
+                r,
+            );
+            r = r + 8;
+            continue;
+        }
+        if r + 4 <= m {
+            rows_at(
+                rows,
+                cols,
+                first,
+                alpha,
+                factory,
+                lesson,
+                x,
+                beta,
+                &mut y[r..r + 4],
+                r,
+            );
+            r = r + 4;
+            continue;
+        }
+        rows_at(
+            rows,
+            cols,
+            first,
+            alpha,
+            factory,
+            lesson,
+            x,
+            beta,
+            &mut y[r..r + 1],
+            r,
+        );
+        r = r + 1;
     }
 }
 
-// Row r times x: the sum runs on from the first slice into the second.
-fn row_at(
+// The products of rows r, r + 1 and so on, one for each place of y: their sums run on from the first slice into the second.
+fn rows_at(
     rows: Rows,
     cols: Cols,
     first: Cols,
+    alpha: f64,
     factory: &[f64],
     lesson: &[f64],
     x: &[f64],
+    beta: f64,
+    y: &mut [f64],
     r: usize,
-) -> f64
+)
     requires { ⌜ SplitStored (rows .0) (cols .0) (first .0) (now factory) (now lesson) ⌝ }
     requires { ⌜ length (now x) ≡ cols .0 ⌝ }
-    requires { ⌜ r < rows .0 ⌝ }
-    ensures { λ s. ⌜ s ≡ product (entry (General rows cols) (now (factory .entry) ++ now (lesson .entry))) (now (x .entry)) r ⌝ }
+    requires { ⌜ r + length (now y) ≤ rows .0 ⌝ }
+    requires { ⌜ length (now y) ≤ 8 ⌝ }
+    ensures { λ _. ⌜
+        now (y .exit)
+        ≡ each
+        (λ k v.
+        alpha *ᶠ product (entry (General rows cols) (now (factory .entry) ++ now (lesson .entry))) (now (x .entry)) (r + k)
+        +ᶠ beta *ᶠ v)
+        (now (y .entry))
+        ⌝ }
 {
     let n1 = first.0;
-    let so_far = row_on(0.0, rows, factory, &x[0..n1], r);
-    row_on(so_far, rows, lesson, &x[n1..], r)
+    let w = y.len();
+    let mut sums = [0.0; 8];
+    rows_on(&mut sums[0..w], rows, factory, &x[0..n1], r);
+    rows_on(&mut sums[0..w], rows, lesson, &x[n1..], r);
+    side_by_side::put_sums(alpha, &sums[0..w], beta, y);
 }
 
-// Row r of the columns of one slice times x, added to the sum so far.
-fn row_on(so_far: f64, rows: Rows, mat: &[f64], x: &[f64], r: usize) -> f64
+// Rows r, r + 1 and so on of the columns of one slice times x, each added to its sum so far.
+fn rows_on(sums: &mut [f64], rows: Rows, mat: &[f64], x: &[f64], r: usize)
     requires { ⌜ length (now mat) ≡ rows .0 * length (now x) ⌝ }
     requires { ⌜ rows .0 ≤ limit ⌝ }
     requires { ⌜ length (now x) ≤ limit ⌝ }
-    requires { ⌜ r < rows .0 ⌝ }
-    ensures { λ s. ⌜ s ≡ rowOn «so_far» (rows .0) (now (mat .entry)) (now (x .entry)) r ⌝ }
+    requires { ⌜ r + length (now sums) ≤ rows .0 ⌝ }
+    ensures { λ _. ⌜
+        now (sums .exit)
+        ≡ each (λ k so-far. rowOn so-far (rows .0) (now (mat .entry)) (now (x .entry)) (r + k)) (now (sums .entry))
+        ⌝ }
 {
     let m = rows.0;
-    let mut mat_x = so_far;
     for c in 0..x.len() {
-        mat_x = mat_x + mat[c * m + r] * x[c];
+        let start = c * m + r;
+        for k in 0..sums.len() {
+            sums[k] = sums[k] + mat[start + k] * x[c];
+        }
     }
-    mat_x
 }
 
 // The products of its columns: each stands in one of the slices.
@@ -136,30 +201,65 @@ fn split_columns(
     columns_of(rows, alpha, lesson, x, beta, &mut y[n1..n]);
 }
 
-// The products of the columns of one slice.
+// The products of the columns of one slice: eight side by side, and what is left four or one.
 fn columns_of(rows: Rows, alpha: f64, mat: &[f64], x: &[f64], beta: f64, y: &mut [f64])
     requires { ⌜ length (now mat) ≡ rows .0 * length (now y) ⌝ }
     requires { ⌜ length (now x) ≡ rows .0 ⌝ }
+    requires { ⌜ length (now y) ≤ limit ⌝ }
     ensures { λ _. ⌜
         now (y .exit)
         ≡ columnsOf alpha (rows .0) (now (mat .entry)) (now (x .entry)) beta (now (y .entry))
         ⌝ }
 {
-    for c in 0..y.len() {
-        y[c] = alpha * column_of(rows, mat, x, c) + beta * y[c];
+    let n = y.len();
+    let mut c: usize = 0;
+    while c < n {
+        if c + 8 <= n {
+            columns_at(rows, alpha, mat, x, beta, &mut y[c..c + 8], c);
+            c = c + 8;
+            continue;
+        }
+        if c + 4 <= n {
+            columns_at(rows, alpha, mat, x, beta, &mut y[c..c + 4], c);
+            c = c + 4;
+            continue;
+        }
+        columns_at(rows, alpha, mat, x, beta, &mut y[c..c + 1], c);
+        c = c + 1;
     }
 }
 
-// Column c of one slice times x.
-fn column_of(rows: Rows, mat: &[f64], x: &[f64], c: usize) -> f64
-    requires { ⌜ c * rows .0 + rows .0 ≤ length (now mat) ⌝ }
+// The products of columns c, c + 1 and so on of one slice, one for each place of y.
+fn columns_at(rows: Rows, alpha: f64, mat: &[f64], x: &[f64], beta: f64, y: &mut [f64], c: usize)
+    requires { ⌜ (c + length (now y)) * rows .0 ≤ length (now mat) ⌝ }
     requires { ⌜ length (now x) ≡ rows .0 ⌝ }
-    ensures { λ s. ⌜ s ≡ columnOf (rows .0) (now (mat .entry)) (now (x .entry)) c ⌝ }
+    requires { ⌜ c + length (now y) ≤ limit ⌝ }
+    requires { ⌜ length (now y) ≤ 8 ⌝ }
+    ensures { λ _. ⌜
+        now (y .exit)
+        ≡ each (λ k v. alpha *ᶠ columnOf (rows .0) (now (mat .entry)) (now (x .entry)) (c + k) +ᶠ beta *ᶠ v) (now (y .entry))
+        ⌝ }
 {
-    let start = c * rows.0;
-    let mut mat_x = 0.0;
+    let w = y.len();
+    let mut sums = [0.0; 8];
+    columns_on(&mut sums[0..w], rows, mat, x, c);
+    side_by_side::put_sums(alpha, &sums[0..w], beta, y);
+}
+
+// Columns c, c + 1 and so on of one slice times x, each added to its sum so far.
+fn columns_on(sums: &mut [f64], rows: Rows, mat: &[f64], x: &[f64], c: usize)
+    requires { ⌜ (c + length (now sums)) * rows .0 ≤ length (now mat) ⌝ }
+    requires { ⌜ length (now x) ≡ rows .0 ⌝ }
+    requires { ⌜ c + length (now sums) ≤ limit ⌝ }
+    ensures { λ _. ⌜
+        now (sums .exit)
+        ≡ each (λ k so-far. columnOn so-far (rows .0) (now (mat .entry)) (now (x .entry)) (c + k)) (now (sums .entry))
+        ⌝ }
+{
+    let m = rows.0;
     for r in 0..x.len() {
-        mat_x = mat_x + mat[start + r] * x[r];
+        for k in 0..sums.len() {
+            sums[k] = sums[k] + mat[(c + k) * m + r] * x[r];
+        }
     }
-    mat_x
 }

@@ -1,91 +1,56 @@
-// The matrix products of floatgeneric.rs, dense by columns and packed, over one entry rule.
+// The products of floatgeneric.rs with a dense matrix in one slice, stored by columns: one row of it after another, or of it transposed.
 use rules::Cols;
 use rules::MatType;
 use rules::Rows;
 ghost use Prim.Native.Nat.{_≤_, _<_};
 ghost use mathlib.Core.Path.{_≡_};
-ghost use mathlib.Core.Bool.{false};
 ghost use lib.ListN.{length};
 ghost use Rattle.rules.specs.Limits.{limit};
 ghost use Rattle.rules.specs.Outcome.{Outcome};
-ghost use Rattle.rules.specs.Matrices.{nRow, nCol, Stored, transformFits, entry, entries, product, transformed};
+ghost use Rattle.rules.specs.Matrices.{Stored, transformFits, entries, product, transformed};
 ghost use Rattle.rules.specs.Matrices as rules;
-ghost use Rattle.rules.specs.declared.MatType.the-variants.{General, SymPack};
+ghost use Rattle.rules.specs.declared.MatType.the-variants.{General};
 
 // Where the entry of row r and column c is stored.
-fn place(t: MatType, r: usize, c: usize) -> usize
-    requires { ⌜ r < nRow t ⌝ }
-    requires { ⌜ c < nCol t ⌝ }
-    requires { ⌜ nRow t ≤ limit ⌝ }
-    requires { ⌜ nCol t ≤ limit ⌝ }
-    ensures { λ p. ⌜ p ≡ rules.place t r c ⌝ }
+fn place(rows: Rows, cols: Cols, r: usize, c: usize) -> usize
+    requires { ⌜ r < rows .0 ⌝ }
+    requires { ⌜ c < cols .0 ⌝ }
+    requires { ⌜ rows .0 ≤ limit ⌝ }
+    requires { ⌜ cols .0 ≤ limit ⌝ }
+    ensures { λ p. ⌜ p ≡ rules.place (General rows cols) r c ⌝ }
 {
-    match t {
-        MatType::General(rows, _) => c * rows.0 + r,
-        MatType::SymPack(_) => {
-            if r < c {
-                matrix::triangle(c) + r
-            } else {
-                matrix::triangle(r) + c
-            }
-        }
-    }
+    c * rows.0 + r
 }
 
 // The entry of row r and column c of the matrix, or of the matrix transposed.
-fn entry_at(transpose: bool, t: MatType, mat: &[f64], r: usize, c: usize) -> f64
-    requires { ⌜ Stored t (now mat) ⌝ }
-    requires { ⌜ r < rules.height transpose t ⌝ }
-    requires { ⌜ c < rules.width transpose t ⌝ }
-    ensures { λ v. ⌜ v ≡ entries transpose t (now (mat .entry)) r c ⌝ }
+fn entry_at(transpose: bool, rows: Rows, cols: Cols, mat: &[f64], r: usize, c: usize) -> f64
+    requires { ⌜ Stored (General rows cols) (now mat) ⌝ }
+    requires { ⌜ r < rules.height transpose (General rows cols) ⌝ }
+    requires { ⌜ c < rules.width transpose (General rows cols) ⌝ }
+    ensures { λ v. ⌜ v ≡ entries transpose (General rows cols) (now (mat .entry)) r c ⌝ }
 {
     if transpose {
-        mat[place(t, c, r)]
+        mat[place(rows, cols, c, r)]
     } else {
-        mat[place(t, r, c)]
+        mat[place(rows, cols, r, c)]
     }
 }
 
 // Row r times x.
-fn row_product(transpose: bool, t: MatType, mat: &[f64], x: &[f64], r: usize) -> f64
-    requires { ⌜ Stored t (now mat) ⌝ }
-    requires { ⌜ length (now x) ≡ rules.width transpose t ⌝ }
-    requires { ⌜ r < rules.height transpose t ⌝ }
-    ensures { λ s. ⌜ s ≡ product (entries transpose t (now (mat .entry))) (now (x .entry)) r ⌝ }
+fn row_product(transpose: bool, rows: Rows, cols: Cols, mat: &[f64], x: &[f64], r: usize) -> f64
+    requires { ⌜ Stored (General rows cols) (now mat) ⌝ }
+    requires { ⌜ length (now x) ≡ rules.width transpose (General rows cols) ⌝ }
+    requires { ⌜ r < rules.height transpose (General rows cols) ⌝ }
+    ensures { λ s. ⌜ s ≡ product (entries transpose (General rows cols) (now (mat .entry))) (now (x .entry)) r ⌝ }
 {
     let mut mat_x = 0.0;
     for c in 0..x.len() {
-        mat_x = mat_x + entry_at(transpose, t, mat, r, c) * x[c];
+        mat_x = mat_x + entry_at(transpose, rows, cols, mat, r, c) * x[c];
     }
     mat_x
 }
 
-// y becomes alpha * matrix * x + beta * y.
-fn transform(
-    transpose: bool,
-    t: MatType,
-    alpha: f64,
-    mat: &[f64],
-    x: &[f64],
-    beta: f64,
-    y: &mut [f64],
-) -> bool
-    ensures { λ r. ⌜
-        Outcome (transformFits transpose t (now (mat .entry)) (now (x .entry)) (now (y .entry)))
-        (transformed alpha (entries transpose t (now (mat .entry))) (now (x .entry)) beta (now (y .entry)))
-        (now (y .entry)) r (now (y .exit))
-        ⌝ }
-{
-    if !matrix::transform_fits(transpose, t, mat, x, y) {
-        return false;
-    }
-    for r in 0..y.len() {
-        y[r] = alpha * row_product(transpose, t, mat, x, r) + beta * y[r];
-    }
-    true
-}
-
-// The product with a dense matrix, or with the matrix transposed.
+// y becomes alpha * matrix * x + beta * y, or so with the matrix transposed.
 pub fn transform_ge(
     transpose: bool,
     rows: Rows,
@@ -104,18 +69,11 @@ pub fn transform_ge(
         (now (y .entry)) r (now (y .exit))
         ⌝ }
 {
-    let t = MatType::General(rows, cols);
-    transform(transpose, t, alpha, mat, x, beta, y)
-}
-
-// The product with a symmetric matrix, packed.
-pub fn transform_sp(n: Rows, alpha: f64, mat: &[f64], x: &[f64], beta: f64, y: &mut [f64]) -> bool
-    ensures { λ r. ⌜
-        Outcome (transformFits false (SymPack n) (now (mat .entry)) (now (x .entry)) (now (y .entry)))
-        (transformed alpha (entry (SymPack n) (now (mat .entry))) (now (x .entry)) beta (now (y .entry)))
-        (now (y .entry)) r (now (y .exit))
-        ⌝ }
-{
-    let t = MatType::SymPack(n);
-    transform(false, t, alpha, mat, x, beta, y)
+    if !matrix::transform_fits(transpose, MatType::General(rows, cols), mat, x, y) {
+        return false;
+    }
+    for r in 0..y.len() {
+        y[r] = alpha * row_product(transpose, rows, cols, mat, x, r) + beta * y[r];
+    }
+    true
 }

@@ -9,14 +9,14 @@ ghost use Rattle.rules.specs.Blocks.{orderOf, readWord};
 fn order_of(size: usize) -> usize
     ensures { λ r. ⌜ r ≡ orderOf size ⌝ }
 {
-    let mut order: usize = 127;
-    while 0 < order {
-        if triangle(order) <= size {
+    let mut order: usize = 0;
+    while order < 127 {
+        if size < triangle(order + 1) {
             return order;
         }
-        order = order - 1;
+        order = order + 1;
     }
-    0
+    127
 }
 
 // What a cone word says: 3 bits of kind, then 13 bits of size.

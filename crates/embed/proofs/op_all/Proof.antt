@@ -1,11 +1,11 @@
 -- `embed::op_all` meets its contract.
 use native.Mathlib.Omega.{arith}
-use mathlib.Core.Path.{_≡_, _∙_}
+use mathlib.Core.Path.{_≡_}
 use borrow.Author.Needs.{needs}
 use lib.ListN.{length}
-use Rattle.rules.specs.Step.{opN, opM, op1}
-use Rattle.rules.proofs.Parts.{from-start, lent-2, lent-3, put-3}
-use Rattle.shape.proofs.Joined.{join-3}
+use Rattle.rules.specs.Problem.{slices, embedIn}
+use Rattle.rules.specs.Step.{onN, onM, on1, opN, opM, op1}
+use Rattle.shape.proofs.Joined.{three-parts}
 use Rattle.embed.proofs.op_all.Statement.{statement}
 use Rattle.embed.proofs.op_all.Tie as tie
 
@@ -77,10 +77,14 @@ returns c =
     let r = c .before .before .op-1 .last .1 .1 .1 .1 .1 .1 .1 .1 .0 in
     let p-length : length p ≡ k .shape .cols .0 = omega (arith, start .pre, c .before .before .before .before .before .before .before .before .before .before .op-n .kept, c .before .before .before .before .before .before .before .before .before .before .before .op-n-arg) in
     let q-length : length q ≡ k .shape .rows .0 = omega (arith, start .pre, c .before .before .before .before .before .before .op-m .kept, c .before .before .before .before .before .before .before .op-m-arg) in
-    let first = rw (from-start (k .shape .cols .0)) at (c .before .before .before .before .before .before .before .before .before .before .op-n .ensures) in
-    let second = rw (lent-2 (k .shape .cols .0) (k .shape .rows .0) 1 w p q p-length q-length) at (c .before .before .before .before .before .before .op-m .ensures) in
-    let third = rw (lent-3 (k .shape .cols .0) (k .shape .rows .0) 1 w p q p-length q-length) at (c .before .before .op-1 .ensures) in
-    put-3 (k .shape .cols .0) (k .shape .rows .0) 1 w p q p-length q-length r (omega (arith, start .pre)) ∙ join-3 first second third
+    let e = embedIn (k .shape) (k .c .now) (slices (k .a1 .now) (k .a2 .now)) (k .b .now) in
+    three-parts (k .shape .cols .0) (k .shape .rows .0) 1 w p q r p-length q-length (omega (arith, start .pre))
+    (onN e (k .alpha) (k .x .now) (k .beta))
+    (onM e (k .alpha) (k .x .now) (k .beta))
+    (on1 e (k .alpha) (k .x .now) (k .beta))
+    (c .before .before .before .before .before .before .before .before .before .before .op-n .ensures)
+    (c .before .before .before .before .before .before .op-m .ensures)
+    (c .before .before .op-1 .ensures)
 
 pub op-all-spec : {M : Type 1} → statement M
 op-all-spec =

@@ -1,11 +1,11 @@
 -- `embed_trans::trans_all` meets its contract.
 use native.Mathlib.Omega.{arith}
-use mathlib.Core.Path.{_≡_, _∙_}
+use mathlib.Core.Path.{_≡_}
 use borrow.Author.Needs.{needs}
 use lib.ListN.{length}
-use Rattle.rules.specs.Step.{transX, transY, transS, transTau}
-use Rattle.rules.proofs.Parts.{from-start, lent-2, lent-3, lent-4, put-4}
-use Rattle.shape.proofs.Joined.{join-4}
+use Rattle.rules.specs.Problem.{slices, embedIn}
+use Rattle.rules.specs.Step.{backX, backY, backS, backTau, transX, transY, transS, transTau}
+use Rattle.shape.proofs.Joined.{four-parts}
 use Rattle.embed_trans.proofs.trans_all.Statement.{statement}
 use Rattle.embed_trans.proofs.trans_all.Tie as tie
 
@@ -99,11 +99,16 @@ returns c =
     let p-length : length p ≡ k .shape .cols .0 = omega (arith, start .pre, c .before .before .before .before .before .before .before .before .before .before .before .before .before .before .trans-x .kept, c .before .before .before .before .before .before .before .before .before .before .before .before .before .before .before .trans-x-arg) in
     let q-length : length q ≡ k .shape .rows .0 = omega (arith, start .pre, c .before .before .before .before .before .before .before .before .before .before .trans-y .kept, c .before .before .before .before .before .before .before .before .before .before .before .trans-y-arg) in
     let r-length : length r ≡ k .shape .rows .0 = omega (arith, start .pre, c .before .before .before .before .before .before .trans-s .kept, c .before .before .before .before .before .before .before .trans-s-arg) in
-    let first = rw (from-start (k .shape .cols .0)) at (c .before .before .before .before .before .before .before .before .before .before .before .before .before .before .trans-x .ensures) in
-    let second = rw (lent-2 (k .shape .cols .0) (k .shape .rows .0) (k .shape .rows .0) w p q p-length q-length) at (c .before .before .before .before .before .before .before .before .before .before .trans-y .ensures) in
-    let third = rw (lent-3 (k .shape .cols .0) (k .shape .rows .0) (k .shape .rows .0) w p q p-length q-length) at (c .before .before .before .before .before .before .trans-s .ensures) in
-    let fourth = rw (lent-4 (k .shape .cols .0) (k .shape .rows .0) (k .shape .rows .0) 1 w p q r p-length q-length r-length) at (c .before .before .trans-tau .ensures) in
-    put-4 (k .shape .cols .0) (k .shape .rows .0) (k .shape .rows .0) 1 w p q r p-length q-length r-length s (omega (arith, start .pre)) ∙ join-4 first second third fourth
+    let e = embedIn (k .shape) (k .c .now) (slices (k .a1 .now) (k .a2 .now)) (k .b .now) in
+    four-parts (k .shape .cols .0) (k .shape .rows .0) (k .shape .rows .0) 1 w p q r s p-length q-length r-length (omega (arith, start .pre))
+    (backX e (k .alpha) (k .y .now) (k .beta))
+    (backY e (k .alpha) (k .y .now) (k .beta))
+    (backS e (k .alpha) (k .y .now) (k .beta))
+    (backTau e (k .alpha) (k .y .now) (k .beta))
+    (c .before .before .before .before .before .before .before .before .before .before .before .before .before .before .trans-x .ensures)
+    (c .before .before .before .before .before .before .before .before .before .before .trans-y .ensures)
+    (c .before .before .before .before .before .before .trans-s .ensures)
+    (c .before .before .trans-tau .ensures)
 
 pub trans-all-spec : {M : Type 1} → statement M
 trans-all-spec =

@@ -3,7 +3,7 @@ use native.Mathlib.Omega.{arith}
 use mathlib.Core.Path.{_≡_}
 use lib.ListN.{length}
 use borrow.Author.Needs.{needs}
-use Rattle.split_transform.proofs.Slices.{first-fits, rest-lent-fits, columns-put}
+use Rattle.split_transform.proofs.Slices.{x₁-length, first-fits, rest-lent-fits, rest-lent-within, columns-put}
 use Rattle.split_transform.proofs.split_columns.Statement.{statement}
 use Rattle.split_transform.proofs.split_columns.Tie as tie
 
@@ -19,7 +19,7 @@ part-columns-of-end c = search needs
 columns-of-requires : tie.Need-columns-of-requires
 columns-of-requires c κs =
     let start = c .before .before .before .before .before in
-    (first-fits (start .pre .0) (start .args .y .now) (start .pre .1 .1), start .pre .1 .0)
+    (first-fits (start .pre .0) (start .args .y .now) (start .pre .1 .1), (start .pre .1 .0, omega (arith, x₁-length (start .pre .0) (start .args .y .now) (start .pre .1 .1), start .pre .0 .cut, start .pre .0 .n-within)))
 
 mul-columns-of : tie.Need-mul-columns-of
 mul-columns-of c = search needs
@@ -39,7 +39,7 @@ columns-of-requires-2 c κs =
     let k = start .args in
     let p = c .before .before .before .columns-of .last .1 .1 .1 .1 .1 .0 in
     let as-many : length p ≡ k .first .0 = omega (arith, start .pre, c .before .before .before .columns-of .kept, c .before .before .before .before .columns-of-arg) in
-    (rest-lent-fits (start .pre .0) (k .x .now) (k .y .now) p (start .pre .1 .1) as-many, start .pre .1 .0)
+    (rest-lent-fits (start .pre .0) (k .x .now) (k .y .now) p (start .pre .1 .1) as-many, (start .pre .1 .0, rest-lent-within (start .pre .0) (k .x .now) (k .y .now) p (start .pre .1 .1) as-many))
 
 same-length : tie.Need-same-length
 same-length c = search needs

@@ -3,6 +3,7 @@ use Prim.Native.Nat.{_-_, _≤_}
 use mathlib.Core.Path.{_≡_, refl}
 use lib.ListN.{length}
 use borrow.Author.Needs.{needs}
+use Rattle.rules.specs.declared.MatType.the-variants.{General}
 use Rattle.rules.specs.Arithmetic.{_*ᶠ_, +0, at}
 use Rattle.rules.specs.Matrices.{entries}
 use Rattle.rules.proofs.Arithmetic.{Summed, summed-none, summed-more, summed-all}
@@ -10,10 +11,10 @@ use Rattle.transform.proofs.row_product.Statement.{statement}
 use Rattle.transform.proofs.row_product.Tie as tie
 
 abbrev Inv-loop : tie.InvT-loop
-Inv-loop transpose t mat x r mat-x₀ c₀ c-end mat-x c = Summed +0 (λ k. entries transpose t mat r k *ᶠ at x k) c mat-x × (c ≤ length x) × (c-end ≡ length x)
+Inv-loop transpose rows cols mat x r mat-x₀ c₀ c-end mat-x c = Summed +0 (λ k. entries transpose (General rows cols) mat r k *ᶠ at x k) c mat-x × (c ≤ length x) × (c-end ≡ length x)
 
 abbrev μ-loop : tie.MeasureT-loop
-μ-loop transpose t mat x r mat-x₀ c₀ c-end mat-x c = length x - c
+μ-loop transpose rows cols mat x r mat-x₀ c₀ c-end mat-x c = length x - c
 
 loop-holds : tie.Need-loop-holds Inv-loop μ-loop
 loop-holds c = (summed-none +0 _, search needs, refl)

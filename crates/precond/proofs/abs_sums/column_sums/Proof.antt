@@ -1,12 +1,14 @@
 -- `precond::abs_sums::column_sums` meets its contract.
-use mathlib.Core.Path.{_≡_, _∙_}
+use mathlib.Core.Path.{_≡_}
 use lib.ListN.{length}
 use Rattle.rules.specs.Helpers.{one}
+use Rattle.rules.specs.Problem.{slices, embedIn}
+use Rattle.rules.specs.Vectors.{shifted}
 use Rattle.rules.specs.Prepare.{sumsX, sumsY, sumsS, sumsTau}
-use Rattle.rules.proofs.Parts.{from-start, lent-2, lent-3, lent-4, put-4}
 use borrow.Author.Needs.{needs}
 use native.Mathlib.Omega.{arith}
-use Rattle.shape.proofs.Joined.{join-4}
+use Rattle.shape.proofs.Joined.{four-parts}
+use Rattle.precond.specs.Precond.{withSumsX, withSumsY, withSumsTau}
 use Rattle.precond.proofs.abs_sums.column_sums.Statement.{statement}
 use Rattle.precond.proofs.abs_sums.column_sums.Tie as tie
 
@@ -96,11 +98,16 @@ returns c =
     let p-length : length p ≡ n = omega (arith, start .pre, c .before .before .before .before .before .before .before .before .before .before .before .before .before .before .sums-x .kept, c .before .before .before .before .before .before .before .before .before .before .before .before .before .before .before .sums-x-arg) in
     let q-length : length q ≡ m = omega (arith, start .pre, c .before .before .before .before .before .before .before .before .before .before .sums-y .kept, c .before .before .before .before .before .before .before .before .before .before .before .sums-y-arg) in
     let r-length : length r ≡ m = omega (arith, start .pre, c .before .before .before .before .before .before .adds .kept, c .before .before .before .before .before .before .before .adds-arg) in
-    let first = rw (from-start n) at (c .before .before .before .before .before .before .before .before .before .before .before .before .before .before .sums-x .ensures) in
-    let second = rw (lent-2 n m m w p q p-length q-length) at (c .before .before .before .before .before .before .before .before .before .before .sums-y .ensures) in
-    let third = rw (lent-3 n m m w p q p-length q-length) at (c .before .before .before .before .before .before .adds .ensures) in
-    let fourth = rw (lent-4 n m m 1 w p q r p-length q-length r-length) at (c .before .before .sums-tau .ensures) in
-    put-4 n m m 1 w p q r p-length q-length r-length s (omega (arith, start .pre)) ∙ join-4 first second third fourth
+    let e = embedIn (k .shape) (k .c .now) (slices (k .a1 .now) (k .a2 .now)) (k .b .now) in
+    four-parts n m m 1 w p q r s p-length q-length r-length (omega (arith, start .pre))
+    (withSumsX e)
+    (withSumsY e)
+    (shifted one)
+    (withSumsTau e)
+    (c .before .before .before .before .before .before .before .before .before .before .before .before .before .before .sums-x .ensures)
+    (c .before .before .before .before .before .before .before .before .before .before .sums-y .ensures)
+    (c .before .before .before .before .before .before .adds .ensures)
+    (c .before .before .sums-tau .ensures)
 
 pub column-sums-spec : {M : Type 1} → statement M
 column-sums-spec =

@@ -212,14 +212,31 @@ fn large(all: &mut Records, random: &mut Random) {
     for (packed, m, n, times) in shapes {
         for _ in 0..times {
             let family = random.pick(&[Family::Drawn, Family::Solvable, Family::LargeEpsZero]);
-            let mut p = of_size(random, family, packed, m, n);
-            p.c.given.truncate(29);
-            p.a.given.truncate(97);
-            p.b.given.truncate(31);
+            let mut p = repeating(of_size(random, family, packed, m, n));
             p.max_iter = random.pick(&[1, 2, 3, 5, 8]);
             all.take(&p);
         }
     }
+}
+
+/// The problem with few numbers in each vector, which repeat.
+fn repeating(mut p: Handed) -> Handed {
+    p.c.given.truncate(29);
+    p.a.given.truncate(97);
+    p.b.given.truncate(31);
+    p
+}
+
+/// Two steps on one block of so many places, and two columns.
+fn of_one_block(random: &mut Random, kind: Kind, size: usize, sweep_limit: u64) -> Handed {
+    let mut p = of_size(random, Family::Drawn, false, size, 2);
+    p.c = Vector::whole(vec![1.0, -2.0]);
+    p.a.given = numbers(random, Sort::Ordinary, 41);
+    p.b.given = numbers(random, Sort::Whole, 37);
+    p.words = vec![Block { kind, size }.word()];
+    p.cone_work = p.needed_cone_work() + 1;
+    (p.max_iter, p.sweep_limit, p.eps_zero) = (2, sweep_limit, 1e-12);
+    p
 }
 
 /// Semidefinite blocks up to order 22; `term` has larger ones.
@@ -227,18 +244,7 @@ fn large_blocks(all: &mut Records, random: &mut Random) {
     for order in [10, 15, 20, 22] {
         let m = order * (order + 1) / 2;
         for sweep_limit in [3, 64] {
-            let mut p = of_size(random, Family::Drawn, false, m, 2);
-            p.c = Vector::whole(vec![1.0, -2.0]);
-            p.a.given = numbers(random, Sort::Ordinary, 41);
-            p.b.given = numbers(random, Sort::Whole, 37);
-            p.words = vec![Block {
-                kind: Kind::Semidefinite,
-                size: m,
-            }
-            .word()];
-            p.cone_work = p.needed_cone_work() + 1;
-            (p.max_iter, p.sweep_limit, p.eps_zero) = (2, sweep_limit, 1e-12);
-            all.take(&p);
+            all.take(&of_one_block(random, Kind::Semidefinite, m, sweep_limit));
         }
     }
 }

@@ -1,18 +1,16 @@
 //! Request (vii) of document 02, a whole term in one fit: sizes from 257 to 1,024, and lists of 33 to 128 words.
 
-use super::{refusals, Records};
+use super::{of_one_block, refusals, repeating, Records};
 use crate::cone_list::Block;
-use crate::draw::{number, numbers, Sort};
+use crate::draw::{number, Sort};
 use crate::families::{lengthen, nonnegative, of_size, small, Family};
 use crate::handed::{stored, work_places, Handed, Vector, LIMIT, MOST_WORDS};
 use crate::original::Kind;
 use crate::random::Random;
 
 /// A few steps on repeated numbers.
-fn few_steps(random: &mut Random, mut p: Handed) -> Handed {
-    p.c.given.truncate(29);
-    p.a.given.truncate(97);
-    p.b.given.truncate(31);
+fn few_steps(random: &mut Random, p: Handed) -> Handed {
+    let mut p = repeating(p);
     (p.max_iter, p.sweep_limit) = (random.pick(&[2, 3, 5]), 64);
     p.raised()
 }
@@ -121,13 +119,7 @@ fn large_blocks(all: &mut Records, random: &mut Random) {
         (Kind::SecondOrder, 1024, 64),
         (Kind::Rotated, 1024, 64),
     ] {
-        let mut p = of_size(random, Family::Drawn, false, size, 2);
-        p.c = Vector::whole(vec![1.0, -2.0]);
-        p.a.given = numbers(random, Sort::Ordinary, 41);
-        p.b.given = numbers(random, Sort::Whole, 37);
-        p.words = vec![Block { kind, size }.word()];
-        p.cone_work = p.needed_cone_work() + 1;
-        (p.max_iter, p.sweep_limit, p.eps_zero) = (2, sweep_limit, 1e-12);
+        let p = of_one_block(random, kind, size, sweep_limit);
         all.take(&p.raised());
     }
 }

@@ -18,8 +18,7 @@ TOLERANCES = ["eps_acc", "eps_inf", "eps_zero"]
 MOST_SIZE = 32
 MOST_WORDS = 63
 
-# What the solver takes of that.
-SOLVER_WORDS = 32
+# What the solver takes of the rest.
 SOLVER_STEPS = 1_000_000
 SOLVER_SWEEPS = 64
 
@@ -370,12 +369,12 @@ def items_of_card(card):
     return items
 
 
-# What the solver would refuse: its tests in their order, each with its reason or none.
+# What the solver would refuse: its tests in their order, each with its reason or none. No card is too large for it (2), and it is lent enough work (6).
 
 
 def refusal(items):
     """The number of the first refusal that holds and its reason, or None."""
-    for number, test in enumerate([bad_param, too_large, invalid_op, bad_cone, not_finite], 1):
+    for number, test in [(1, bad_param), (3, invalid_op), (4, bad_cone), (5, not_finite)]:
         reason = test(items)
         if reason:
             return number, reason
@@ -392,12 +391,6 @@ def bad_param(items):
         return f"max_iter is {items['max_iter']}, above {SOLVER_STEPS}"
     if not 1 <= items["sweep_limit"] <= SOLVER_SWEEPS:
         return f"sweep_limit is {items['sweep_limit']}, and not from 1 to {SOLVER_SWEEPS}"
-    return None
-
-
-def too_large(items):
-    if len(items["word"]) > SOLVER_WORDS:
-        return f"there are {len(items['word'])} cone words, and the solver takes {SOLVER_WORDS}"
     return None
 
 

@@ -42,7 +42,7 @@ def face(kind, function, name, parameters):
 def faces(text):
     made = ""
     for found in re.finditer(r'^define internal noundef (\S+) @"([\w:]+)"\(([^)]*)\)', text, flags=re.M):
-        kind, function, parameters = found.group(1), found.group(2), found.group(3).split(", ")
+        kind, function, parameters = found.group(1), found.group(2), re.findall("[^,]+", found.group(3))
         name = FACES.get(function, function.split("::")[-1] if re.match(r"timed::timed_", function) else None)
         if name:
             made += face(kind, function, name, parameters)

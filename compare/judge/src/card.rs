@@ -11,7 +11,7 @@ pub const PADDING: u64 = 4;
 pub const LEFT_OVER: u64 = 5;
 
 /// The largest n and m of a card.
-pub const LIMIT: usize = 32;
+pub const MOST_SIZE: usize = 32;
 
 /// All that a card says; numbers are patterns.
 #[derive(Clone, Debug, PartialEq)]
@@ -63,7 +63,7 @@ impl Bits<'_> {
     /// n or m.
     fn size(&mut self) -> Result<usize, u64> {
         let size = self.take(6)? as usize;
-        if size > LIMIT {
+        if size > MOST_SIZE {
             return Err(LARGE);
         }
         Ok(size)
@@ -210,8 +210,9 @@ impl Card {
             c: numbers(&self.c),
             a: numbers(&self.a),
             b: numbers(&self.b),
-            work: work_places(LIMIT, LIMIT),
-            cone_work: LIMIT + LIMIT * LIMIT,
+            twice: false,
+            work: work_places(MOST_SIZE, MOST_SIZE),
+            cone_work: MOST_SIZE + MOST_SIZE * MOST_SIZE,
             fill: 0.0,
         }
     }

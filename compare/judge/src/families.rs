@@ -286,10 +286,27 @@ pub fn of_size(random: &mut Random, family: Family, packed: bool, m: usize, n: u
         c: Vector::whole(data.c),
         a: Vector::whole(data.a),
         b: Vector::whole(data.b),
+        twice: false,
         work: work_places(m, n) + random.pick(&[0, 0, 0, 1, 2, 5]),
         cone_work: work_len(&list) + random.pick(&[0, 0, 0, 1, 3]),
         fill: fill(random),
     }
+}
+
+/// Puts blocks of size 0, of any kind, anywhere into a list until it has so many words.
+pub fn lengthen(random: &mut Random, words: &mut Vec<u16>, count: usize) {
+    while words.len() < count {
+        let at = random.within(0, words.len());
+        let kind = random.pick(&KINDS);
+        words.insert(at, Block { kind, size: 0 }.word());
+    }
+}
+
+/// So many nonnegative blocks for so many places: of one place each, and the last one of the rest.
+pub fn nonnegative(places: usize, count: usize) -> Vec<u16> {
+    let sizes = (1..count).map(|_| 1).chain([places + 1 - count]);
+    let kind = Kind::Nonnegative;
+    sizes.map(|size| Block { kind, size }.word()).collect()
 }
 
 /// Most sizes are small, none is above 32.

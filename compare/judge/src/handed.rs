@@ -41,11 +41,17 @@ pub struct Handed {
     pub c: Vector,
     pub a: Vector,
     pub b: Vector,
+    /// Whether a is half of a dense A, whose other columns are the same once more.
+    pub twice: bool,
     /// Places lent of work and of cone work, and what each of them holds.
     pub work: usize,
     pub cone_work: usize,
     pub fill: f64,
 }
+
+/// The largest n and m, and the most cone words, by request (vii) of document 02.
+pub const LIMIT: usize = 1024;
+pub const MOST_WORDS: usize = 128;
 
 pub const BAD_PARAM: u64 = 1;
 pub const TOO_LARGE: u64 = 2;
@@ -80,13 +86,18 @@ pub fn stored(packed: bool, m: usize, n: usize) -> usize {
 impl Handed {
     /// "When the hub is turned away": the first number that applies.
     pub fn refusal(&self) -> Option<u64> {
-        let table: [(u64, fn(&Handed) -> bool); 6] = [
-            (BAD_PARAM, Handed::bad_param),
-            (TOO_LARGE, Handed::too_large),
-            (INVALID_OP, Handed::invalid_op),
-            (BAD_CONE, Handed::bad_cone),
-            (NOT_FINITE, Handed::not_finite),
-            (WORK_SHORTAGE, Handed::work_shortage),
+        self.refusal_by(MOST_WORDS)
+    }
+
+    /// The same by a table that takes so many cone words.
+    pub fn refusal_by(&self, most_words: usize) -> Option<u64> {
+        let table: [(u64, &dyn Fn(&Handed) -> bool); 6] = [
+            (BAD_PARAM, &Handed::bad_param),
+            (TOO_LARGE, &|p| p.too_large(most_words)),
+            (INVALID_OP, &Handed::invalid_op),
+            (BAD_CONE, &Handed::bad_cone),
+            (NOT_FINITE, &Handed::not_finite),
+            (WORK_SHORTAGE, &Handed::work_shortage),
         ];
         table.iter().find(|(_, test)| test(self)).map(|(no, _)| *no)
     }
@@ -100,13 +111,23 @@ impl Handed {
             || !(1..=64).contains(&self.sweep_limit)
     }
 
-    fn too_large(&self) -> bool {
-        self.n > 256 || self.m > 256 || self.words.len() > 32
+    fn too_large(&self, most_words: usize) -> bool {
+        self.n > LIMIT || self.m > LIMIT || self.words.len() > most_words
+    }
+
+    /// All of A.
+    fn a_numbers(&self) -> Vec<f64> {
+        self.a.numbers().repeat(self.times())
+    }
+
+    /// How often A has the numbers of a.
+    fn times(&self) -> usize {
+        1 + usize::from(self.twice)
     }
 
     fn invalid_op(&self) -> bool {
         self.c.length != self.n
-            || self.a.length != stored(self.packed, self.m, self.n)
+            || self.a.length * self.times() != stored(self.packed, self.m, self.n)
             || self.b.length != self.m
             || self.packed && self.m != self.n
     }
@@ -159,7 +180,7 @@ impl Handed {
                 MatType::General(self.m, self.n)
             },
             c: self.c.numbers(),
-            a: self.a.numbers(),
+            a: self.a_numbers(),
             b: self.b.numbers(),
             blocks: self.blocks().expect("a list without a bad word"),
             max_iter: self.max_iter as usize,
@@ -190,6 +211,7 @@ mod tests {
             c: Vector::whole(vec![1.0; 2]),
             a: Vector::whole(vec![1.0; 6]),
             b: Vector::whole(vec![1.0; 3]),
+            twice: false,
             work: 48,
             cone_work: 0,
             fill: f64::NAN,
@@ -253,11 +275,28 @@ mod tests {
 
     #[test]
     fn limits_of_the_sizes() {
-        assert_eq!(sized(256, 256), None);
-        assert_eq!(sized(257, 0), Some(2));
-        assert_eq!(sized(0, 257), Some(2));
-        assert_eq!(changed(|p| p.words.resize(32, 0)), None);
-        assert_eq!(changed(|p| p.words.resize(33, 0)), Some(2));
+        assert_eq!(sized(257, 257), None);
+        assert_eq!(sized(1024, 1024), None);
+        assert_eq!(sized(1025, 0), Some(2));
+        assert_eq!(sized(0, 1025), Some(2));
+        assert_eq!(changed(|p| p.words.resize(33, 0)), None);
+        assert_eq!(changed(|p| p.words.resize(128, 0)), None);
+        assert_eq!(changed(|p| p.words.resize(129, 0)), Some(2));
+    }
+
+    #[test]
+    fn a_matrix_of_two_halves() {
+        let mut p = accepted();
+        (p.n, p.c, p.twice) = (4, Vector::whole(vec![1.0; 4]), true);
+        p.work = work_places(3, 4);
+        p.a = Vector::whole(vec![1.0, 2.0, 3.0, 4.0, 5.0, 6.0]);
+        assert_eq!(p.refusal(), None);
+        assert_eq!(
+            p.problem().a,
+            [1, 2, 3, 4, 5, 6, 1, 2, 3, 4, 5, 6].map(f64::from)
+        );
+        p.a.length = 12;
+        assert_eq!(p.refusal(), Some(3));
     }
 
     #[test]
@@ -280,9 +319,9 @@ mod tests {
 
     #[test]
     fn the_first_that_applies() {
-        assert_eq!(changed(|p| (p.n, p.sweep_limit) = (257, 0)), Some(1));
-        assert_eq!(changed(|p| (p.n, p.eps_inf) = (257, -1.0)), Some(1));
-        assert_eq!(changed(|p| (p.n, p.work) = (257, 0)), Some(2));
+        assert_eq!(changed(|p| (p.n, p.sweep_limit) = (1025, 0)), Some(1));
+        assert_eq!(changed(|p| (p.n, p.eps_inf) = (1025, -1.0)), Some(1));
+        assert_eq!(changed(|p| (p.n, p.work) = (1025, 0)), Some(2));
         assert_eq!(changed(|p| (p.c.length, p.work) = (3, 0)), Some(3));
         let nan = f64::NAN;
         assert_eq!(changed(|p| (p.words[0], p.b.given[0]) = (0, nan)), Some(4));

@@ -1,16 +1,19 @@
 // Arrays of what a record holds.
 use replay::record;
+use rules::LIMIT;
+use rules::MOST_WORDS;
 
-// How many numbers there may be: of c and of b, of A, of work, of cone work; and how many cone words.
-pub const ROOM: usize = 300;
+// How many numbers there may be: of c and of b, of A, of work, of cone work; and how many cone words. The list has a little more than
+// the solver takes, but for A: the largest dense matrix would fill the stack, and the largest packed one stands here.
+pub const ROOM: usize = LIMIT + 16;
 
-pub const A_ROOM: usize = 66100;
+pub const A_ROOM: usize = LIMIT * (LIMIT + 1) / 2;
 
-pub const WORK_ROOM: usize = 4200;
+pub const WORK_ROOM: usize = 16 * ROOM + 6;
 
-pub const CONE_ROOM: usize = 600;
+pub const CONE_ROOM: usize = 2 * LIMIT;
 
-pub const WORD_ROOM: usize = 40;
+pub const WORD_ROOM: usize = MOST_WORDS + 8;
 
 // A vector in a record: number k of its length is the one at k mod given after its place.
 pub(crate) struct Vector {

@@ -18,10 +18,11 @@ pub enum Found {
     Unknown,
 }
 
-// How A is handed over: in one slice, or in two, with so many columns in the first.
+// How A is handed over: in one slice; in two, with so many columns in the first; or one slice, which holds half of its columns, for both halves.
 pub enum Cut {
     Whole,
     After(usize),
+    Twice,
 }
 
 // The place of the number of cone words.
@@ -66,7 +67,14 @@ fn told(agrees: bool, number: usize) -> Found {
     }
 }
 
-// Whether a record's matrix is dense.
+// Whether half of a dense matrix stands in a record, and the other half is the same once more.
+pub fn is_half(record: &[u8]) -> bool
+    ensures { λ r. ⌜ r ≡ eqb (wordOf (now («record» .entry)) 5) 2 ⌝ }
+{
+    record::word(record, 5) == 2
+}
+
+// Whether a record's matrix is dense, all of it there.
 pub fn is_dense(record: &[u8]) -> bool
     ensures { λ r. ⌜ r ≡ eqb (wordOf (now («record» .entry)) 5) 0 ⌝ }
 {
@@ -85,6 +93,7 @@ fn in_first(record: &[u8], cut: Cut, length: usize) -> usize {
     let rows = record::size(record, 7);
     match cut {
         Cut::Whole => length,
+        Cut::Twice => length,
         Cut::After(first) => {
             if rows > room::ROOM {
                 return length;
@@ -245,6 +254,21 @@ fn run<'a>(
                 c,
                 a1,
                 a2,
+                b,
+                words,
+                work,
+                cone_work,
+            )
+        }
+        Cut::Twice => {
+            solver::solve_split(
+                par,
+                rows,
+                cols,
+                Cols(cols.0 / 2),
+                c,
+                a1,
+                a1,
                 b,
                 words,
                 work,

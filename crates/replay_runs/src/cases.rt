@@ -1,32 +1,36 @@
 // The runs worked by hand in document 01 that are left to a program.
 use libc::STDOUT_FILENO;
 use lines::write_case;
-use replay_problems::room;
 use rules::Cols;
 use rules::Rows;
 use rules::SolverParam;
 use rules::Storage;
 
+// How many numbers of c, A or b, and how many places of work there may be.
+const ROOM: usize = 16;
+
+const WORK_ROOM: usize = 64;
+
 // The answer to a dense problem of zeros, with so many numbers of c and of A, places of work, and one
 // cone word.
 fn of_zeros(m: usize, n: usize, c: usize, a: usize, work: usize, word: u16) -> u64 {
-    if m > room::ROOM {
+    if m > ROOM {
         return 0;
     }
-    if c > room::ROOM {
+    if c > ROOM {
         return 0;
     }
-    if a > room::A_ROOM {
+    if a > ROOM {
         return 0;
     }
-    if work > room::WORK_ROOM {
+    if work > WORK_ROOM {
         return 0;
     }
-    let of_c = [0.0; room::ROOM];
-    let of_a = [0.0; room::A_ROOM];
-    let of_b = [0.0; room::ROOM];
+    let of_c = [0.0; ROOM];
+    let of_a = [0.0; ROOM];
+    let of_b = [0.0; ROOM];
     let words = [word; 1];
-    let mut lent = [0.0; room::WORK_ROOM];
+    let mut lent = [0.0; WORK_ROOM];
     let mut cone_work = [0.0; 12];
     let answer = solver::solve(
         SolverParam::new(1, 64),
@@ -44,12 +48,8 @@ fn of_zeros(m: usize, n: usize, c: usize, a: usize, work: usize, word: u16) -> u
     replay_answers::number_of(ending)
 }
 
-// The words are a nonnegative block of 256 and of 257, a semidefinite one of 3 and of 4.
+// The words are a semidefinite block of 3 and of 4. Sizes at the limit are in limit_cases.
 pub fn write_cases() {
-    io::write_all(STDOUT_FILENO, b"sizes 256, accepted");
-    write_case(of_zeros(256, 256, 256, 65536, 4102, 8448) > 6);
-    io::write_all(STDOUT_FILENO, b"sizes 257, refused by 2");
-    write_case(of_zeros(257, 257, 257, 66049, 4118, 8449) == 2);
     io::write_all(STDOUT_FILENO, b"kind 4 of size 3, accepted");
     write_case(of_zeros(3, 1, 1, 3, 42, 32771) > 6);
     io::write_all(STDOUT_FILENO, b"kind 4 of size 4, refused by 4");

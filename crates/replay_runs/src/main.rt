@@ -1,20 +1,22 @@
 // Replays whole problems: standard input holds the number of records and then the records, as
 // compare/README.md says. Each problem is run by solver::solve, and its answer and all of both buffers
 // are held to the list. Each dense one is then run by solver::solve_split, cut after so many columns, and
-// held to the same record. Then come the runs worked by hand.
+// held to the same record. A matrix of which half stands in the record is run by solver::solve_split alone, with
+// that half for both. Then come the runs worked by hand.
 mod cases;
 mod cuts;
 
 use libc::STDOUT_FILENO;
 use replay_problems::room::A_ROOM;
+use replay_problems::room::WORK_ROOM;
 use replay_problems::runs;
 use replay_problems::runs::Cut;
 use replay_problems::runs::Found;
 
-// The longest record of the list has 4,307 words.
-const MOST_WORDS: u64 = 5000;
+// The longest record that there is room for: as much work as may be lent, and some words for all else. The longest of the list has 16,613.
+const RECORD_WORDS: usize = WORK_ROOM + 512;
 
-const MOST_BYTES: usize = 40000;
+const RECORD_BYTES: usize = 8 * RECORD_WORDS;
 
 // What is counted: 0 all of 1 to 12, which are refusals by their numbers up to 6 and then endings; then,
 // once more, those whose problem meets a listed difference. The last are apart: a larger or smaller of -0
@@ -37,39 +39,55 @@ const CUT: usize = 18;
 const COUNTED: usize = 23;
 
 // Reads a record and replays it: whether there was a whole one of a known kind.
-fn replay_one(a: &mut [f64], agree: &mut [u64; COUNTED], differ: &mut [u64; COUNTED]) -> bool {
+fn replay_one(
+    bytes: &mut [u8],
+    a: &mut [f64],
+    agree: &mut [u64; COUNTED],
+    differ: &mut [u64; COUNTED],
+) -> bool {
     let mut head = [0u8; 16];
     if !lines::read(&mut head, 16) {
         return false;
     }
     let tag = patterns::word_at(&head, 0);
     let words = patterns::word_at(&head, 8);
-    replay_rest(tag, words, a, agree, differ)
+    replay_rest(tag, words, bytes, a, agree, differ)
 }
 
 // Goes on after the first two words of a record, the differences met and how many words follow.
 fn replay_rest(
     tag: u64,
     words: u64,
+    bytes: &mut [u8],
     a: &mut [f64],
     agree: &mut [u64; COUNTED],
     differ: &mut [u64; COUNTED],
 ) -> bool {
-    if words > MOST_WORDS {
+    if words > RECORD_WORDS as u64 {
         return false;
     }
     let length = words as usize * 8;
-    let mut bytes = [0u8; MOST_BYTES];
-    if !lines::read(&mut bytes, length) {
+    if length > bytes.len() {
         return false;
     }
-    let found = runs::replay(&bytes[0..length], Cut::Whole, a);
+    if !lines::read(bytes, length) {
+        return false;
+    }
+    let found = replay_as_it_stands(&bytes[0..length], a);
     let told = match found {
         Found::Agrees(number) => count(agree, number, tag),
         Found::Differs(number) => count(differ, number, tag),
         Found::Unknown => false,
     };
     told && replay_cut(&bytes[0..length], a, agree, differ)
+}
+
+// Replays a record with its matrix as it stands there: whole, or half of it, for both halves.
+fn replay_as_it_stands(record: &[u8], a: &mut [f64]) -> Found {
+    if runs::is_half(record) {
+        return runs::replay(record, Cut::Twice, a);
+    }
+    runs::replay(record, Cut::Whole, a)
 }
 
 // Replays a record with a dense matrix once more, cut in one of five ways, which take turns.
@@ -118,16 +136,26 @@ fn count_if(tally: &mut [u64; COUNTED], met: bool, at: usize) -> bool {
 // Replays so many records, or up to one that can't be: whether all were, and nothing follows.
 fn replay(
     records: u64,
+    bytes: &mut [u8],
     a: &mut [f64],
     agree: &mut [u64; COUNTED],
     differ: &mut [u64; COUNTED],
 ) -> bool {
     for _ in 0..records {
-        if !replay_one(a, agree, differ) {
+        if !replay_one(bytes, a, agree, differ) {
             return false;
         }
     }
     lines::at_end()
+}
+
+// Room for the longest record and for A. An array that a call answers has a length and nothing else that a proof would go into.
+fn bytes_of_a_record() -> [u8; RECORD_BYTES] {
+    [0u8; RECORD_BYTES]
+}
+
+fn numbers_of_a() -> [f64; A_ROOM] {
+    [0.0; A_ROOM]
 }
 
 // Writes the name of what is counted, if there is one of this number.
@@ -214,10 +242,12 @@ fn main() {
         io::write_all(STDOUT_FILENO, b"stopped: there is no list\n");
         return;
     }
-    let mut a = [0.0; A_ROOM];
+    let mut bytes = bytes_of_a_record();
+    let mut a = numbers_of_a();
     let mut agree = [0u64; COUNTED];
     let mut differ = [0u64; COUNTED];
-    let whole = replay(patterns::word_at(&head, 0), &mut a, &mut agree, &mut differ);
+    let records = patterns::word_at(&head, 0);
+    let whole = replay(records, &mut bytes, &mut a, &mut agree, &mut differ);
     write_counted(&agree, &differ);
     write_total(whole, &agree, &differ);
     cases::write_cases();

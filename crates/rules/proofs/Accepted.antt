@@ -48,12 +48,12 @@ param-fits par e =
       sweeps = leb-true (par .«sweep_limit») mostSweeps (s .1);
     }
 
-record SizesFit (p : Problem) : Type 0 where
-  n : p .n ≤ limit
-  m : p .m ≤ limit
-  words : length (p .words) ≤ mostWords
+pub record SizesFit (p : Problem) : Type 0 where
+  pub n : p .n ≤ limit
+  pub m : p .m ≤ limit
+  pub words : length (p .words) ≤ mostWords
 
-sizes-fit : (p : Problem) → tooLarge p ≡ false → SizesFit p
+pub sizes-fit : (p : Problem) → tooLarge p ≡ false → SizesFit p
 unfolding tooLarge
 sizes-fit p e =
     let f = neither _ _ e in
@@ -83,11 +83,11 @@ lengths-fit p e =
       square = λ k. eqb-true (p .m) (p .n) (not-both (isPacked (p .storage)) (eqb (p .m) (p .n)) (h .1) k);
     }
 
-record ConeFits (p : Problem) : Type 0 where
-  no-bad-word : hasBadWord (p .words) ≡ false
-  sum : totalPlaces (blocks p) ≡ p .m
+pub record ConeFits (p : Problem) : Type 0 where
+  pub no-bad-word : hasBadWord (p .words) ≡ false
+  pub sum : totalPlaces (blocks p) ≡ p .m
 
-cone-fits : (p : Problem) → badCone p ≡ false → ConeFits p
+pub cone-fits : (p : Problem) → badCone p ≡ false → ConeFits p
 unfolding badCone isBadCone
 cone-fits p e =
     let f = neither (hasBadWord (p .words)) (not (eqb (totalPlaces (blocks p)) (p .m))) e in

@@ -1,19 +1,23 @@
 -- The owner's demands hold of the rules: each statement of `specs/Demands.antt`, with its proof's place.
-use Prim.Native.Nat.{ℕ, _+_}
-use mathlib.Core.Path.{_≡_}
+use Prim.Native.Nat.{ℕ, _+_, _≤_}
+use native.Mathlib.Omega.{arith}
+use mathlib.Core.Path.{_≡_, refl}
+use mathlib.Core.Logic.{_↔_}
 use mathlib.Core.Bool.{true}
 use mathlib.Core.List.{List}
 use lib.Ieee.{Float}
 use lib.ListN.{length}
 use Rattle.rules.specs.declared.Answer.{Answer}
 use Rattle.rules.specs.Product.{Failure}
-use Rattle.rules.specs.Problem.{Problem}
+use Rattle.rules.specs.Limits.{limit}
+use Rattle.rules.specs.Matrices.{triangle}
+use Rattle.rules.specs.Problem.{Problem, workLength}
 use Rattle.rules.specs.Step.{State}
 use Rattle.rules.specs.declared.Norms.{Norms}
 use Rattle.rules.specs.declared.Criteria.{Criteria}
 use Rattle.rules.specs.Run.{pieceFrom, takenUp, Ended, run, leftBy}
 use Rattle.rules.specs.declared.Refusal.the-variants.{Accepted}
-use Rattle.rules.specs.Refusals.{Fact, facts, refusal, readProblem, solved, SolveOutcome}
+use Rattle.rules.specs.Refusals.{Fact, facts, refusal, readProblem, numberOf, solved, SolveOutcome}
 use Rattle.rules.specs.Split.{SplitProblem, slicesFit, joinedProblem, splitFacts, splitRefusal, splitSolved, SplitOutcome}
 use Rattle.rules.specs.Demands.{NoneHolds, NumberedFrom, GivenExactly, TurnedAwayExactly, SplitTurnedAwayExactly, AsJoinedOrInvalid, GoesByTheRules, EndsFirst, GoesOnExactly, ConvergedExactly, RotationsBounded, AnsweredByTheRules, OldContentsChangeNothing, SplitOldContentsChangeNothing, PlacesBeyondKept, SplitPlacesBeyondKept}
 use Rattle.rules.proofs.Refusals as Refusals
@@ -23,6 +27,8 @@ use Rattle.rules.proofs.Rotations as Rotations
 use Rattle.rules.proofs.OldContents as OldContents
 use Rattle.rules.proofs.Answered as Answered
 use Rattle.rules.proofs.SplitRuns as SplitRuns
+use Rattle.rules.proofs.Triangle.{triangle-grows}
+use Rattle.rules.proofs.Enough as Enough
 
 -- ---- demand 1
 
@@ -119,3 +125,20 @@ split-places-beyond-kept = SplitRuns.split-places-beyond-kept
 
 pub any-two-split-outcomes-coincide : {p : SplitProblem} {work cone : List Float} {a a' : Answer} {w w' k k' : List Float} → SplitOutcome p work cone a w k → SplitOutcome p work cone a' w' k' → (a ≡ a') × (w ≡ w') × (k ≡ k')
 any-two-split-outcomes-coincide s t = SplitRuns.any-two-split-outcomes-coincide s t
+
+-- ---- request (vii): what the limits come to
+
+-- "The largest semidefinite order is then 44"
+pub largest-order : (d : ℕ) → (triangle d ≤ limit) ↔ (d ≤ 44)
+largest-order d = (Enough.none-larger limit 44 (omega arith) d, λ h. omega (arith, triangle-grows d 44 h))
+
+-- "and work at the limit is 16,390 places"
+pub work-at-the-limit : workLength limit limit ≡ 16390
+work-at-the-limit = refl
+
+-- who lends as much, and cone work for that order, is never refused by 6, whatever the problem
+pub never-short-of-work : (p : Problem) (work cone : List Float) → 16390 ≤ length work → 1980 ≤ length cone → numberOf (solved p work cone .answer .ending) ≡ 6 → ⊥
+never-short-of-work p work cone hw hc = Enough.never-short-at-the-limit 44 (omega arith) p work cone hw hc
+
+pub split-never-short-of-work : (p : SplitProblem) (work cone : List Float) → 16390 ≤ length work → 1980 ≤ length cone → numberOf (splitSolved p work cone .answer .ending) ≡ 6 → ⊥
+split-never-short-of-work p work cone hw hc = Enough.split-never-short-at-the-limit 44 (omega arith) p work cone hw hc

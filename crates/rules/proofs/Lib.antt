@@ -18,6 +18,7 @@ pub mod Accepted
 pub mod OldContents
 pub mod Answered
 pub mod SplitRuns
+pub mod Enough
 pub mod Demands
 pub mod Outcome
 pub mod Vectors

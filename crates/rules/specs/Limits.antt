@@ -1,13 +1,13 @@
 -- Document 01, "What the hub hands over": the limits. The code has the same numbers as constants of this crate.
 use Prim.Native.Nat.{ℕ, _-_, _/_, _^_}
 
--- "n, m: 0 to 256"
+-- "n, m: 0 to 256"; by request (vii) of document 02 "Raise n and m to 1,024"
 abbrev pub limit : ℕ
-limit = 256
+limit = 1024
 
--- "Cone list: 0 to 32 words."
+-- "Cone list: 0 to 32 words."; by (vii) "the cone list to 128 words"
 abbrev pub mostWords : ℕ
-mostWords = 32
+mostWords = 128
 
 -- "max_iter: 0 to 1,000,000"
 abbrev pub mostSteps : ℕ

@@ -53,7 +53,7 @@ unfoldable pub badParam : SolverParam → Bool
 unfolding lt
 badParam par = badTolerance par || ltb mostSteps (par .«max_iter») || not (sweepsFit par)
 
--- 2: "n or m above 256, or more than 32 cone words"
+-- 2: "n or m above 256, or more than 32 cone words"; by request (vii) of document 02 "TooLarge moves to 1,025 and 129"
 abbrev pub largeSizes : ℕ → ℕ → List ℕ → Bool
 largeSizes m n words = ltb limit n || ltb limit m || ltb mostWords (length words)
 

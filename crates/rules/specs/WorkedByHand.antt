@@ -1,4 +1,4 @@
--- Document 01, "Worked by hand": the cases marked P, as rows of one table, with the cone word that 01 names and requests (ii) and (iv) of document 02. `proofs/WorkedByHand.antt` proves the one claim that every row holds.
+-- Document 01, "Worked by hand": the cases marked P, as rows of one table, with the cone word that 01 names and requests (ii), (iv) and (vii) of document 02. `proofs/WorkedByHand.antt` proves the one claim that every row holds.
 use Prim.Native.Nat.{ℕ}
 use mathlib.Core.Path.{_≡_}
 use mathlib.Core.List.{List, [], _∷_}
@@ -14,7 +14,7 @@ use Rattle.rules.specs.declared.Cone.the-variants.{SOC}
 use Rattle.rules.specs.declared.Word.the-variants.{Block}
 use Rattle.rules.specs.declared.Answer.{Answer}
 use Rattle.rules.specs.declared.Ending.{Ending}
-use Rattle.rules.specs.declared.Ending.the-variants.{Converged, ExcessIterUnscaled, BadParam, WorkShortage}
+use Rattle.rules.specs.declared.Ending.the-variants.{Converged, ExcessIterUnscaled, BadParam, TooLarge, WorkShortage}
 use Rattle.rules.specs.Arithmetic.{+0}
 use Rattle.rules.specs.Helpers.{larger, smaller}
 use Rattle.rules.specs.Matrices.{opped, transOpped, absaddedRows, absaddedCols}
@@ -23,7 +23,7 @@ use Rattle.rules.specs.Blocks.{readWord}
 use Rattle.rules.specs.Parameters.{oneOver, paramOf, withEpsZero, defaults}
 use Rattle.rules.specs.Outcome.{turned-away, onPaper}
 use Rattle.rules.specs.Problem.{Problem}
-use Rattle.rules.specs.Refusals.{solved, turnedAway}
+use Rattle.rules.specs.Refusals.{tooLarge, solved, turnedAway}
 use Rattle.rules.specs.Root.{root}
 
 -- A row says what a term of the rules comes to.
@@ -90,6 +90,10 @@ withTolerances epsAcc epsInf = empty (paramOf 1_000_000 epsAcc epsInf (oneOver 1
 abbrev nextBelow0 : Float
 nextBelow0 = f64 0x8000_0000_0000_0001
 
+-- so many columns, rows and cone words, and nothing lent for c, A and b: 2 is asked before 3
+abbrev sized : ℕ → ℕ → ℕ → Problem
+sized n m words = record { m = m; n = n; storage = Dense; c = []; a = []; b = []; words = replicate words 0; par = defaults 1_000_000 64 }
+
 -- places that held 5 before
 abbrev held : ℕ → List Float
 held k = replicate k (whole 5)
@@ -128,4 +132,9 @@ table =
     ∷ (larger −0 +0 comes-to +0)
     ∷ (larger +0 −0 comes-to +0)
     ∷ (larger nan nan comes-to nan)
+    -- for the case "sizes 256 / 257", request (vii)'s
+    ∷ (tooLarge (sized 1024 1024 128) comes-to false)
+    ∷ (solved (sized 1025 0 0) (held 6) [] comes-to turnedAway TooLarge (held 6) [])
+    ∷ (solved (sized 0 1025 0) (held 6) [] comes-to turnedAway TooLarge (held 6) [])
+    ∷ (solved (sized 0 0 129) (held 6) [] comes-to turnedAway TooLarge (held 6) [])
     ∷ []

@@ -4,7 +4,7 @@ ghost use mathlib.Core.Path.{_≡_};
 ghost use Rattle.rules.specs.Parameters.{paramOf, withEpsZero, defaults};
 
 // The most rows and the most columns of a matrix, which are the largest m and n.
-pub const LIMIT: usize = 256;
+pub const LIMIT: usize = 1024;
 
 // Number of rows and number of columns are types of their own, so the two can't be swapped by mistake.
 pub struct Rows(pub usize);
@@ -54,7 +54,7 @@ pub struct Shape {
 // The largest max_iter, and the most cone words.
 pub const MOST_STEPS: u64 = 1000000;
 
-pub const MOST_WORDS: usize = 32;
+pub const MOST_WORDS: usize = 128;
 
 // The most places of a list of blocks: their rotations, at most MOST_SWEEPS a place, then fit 64 bits.
 pub const MOST_PLACES: usize = (18446744073709551615 / MOST_SWEEPS) as usize;

@@ -20,7 +20,8 @@ const LONG_X: usize = 3 * LIMIT + 1;
 
 const LONG_Y: usize = 2 * LIMIT + 1;
 
-// Runs a problem, or turns it away.
+// Runs a problem, or turns it away. A run has six vectors on the stack, as long as the limit asks, whatever the problem's sizes: 16 * LIMIT + 6
+// numbers, which are 131 KB.
 pub fn solve(
     par: SolverParam,
     rows: Rows,
@@ -76,7 +77,8 @@ pub fn solve(
     }
 }
 
-// Runs a problem whose dense A stands in two slices, the first columns in one and the rest in the other, or turns it away.
+// Runs a problem whose dense A stands in two slices, the first columns in one and the rest in the other, or turns it away. Its
+// stack is that of solve.
 pub fn solve_split<'a>(
     par: SolverParam,
     rows: Rows,

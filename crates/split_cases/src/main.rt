@@ -2,11 +2,12 @@
 use libc::STDOUT_FILENO;
 use lines::write_case;
 use rules::Cols;
+use rules::LIMIT;
 use rules::Rows;
 use rules::SolverParam;
 
 // How many numbers a slice may have, and c or b.
-const ROOM: usize = 300;
+const ROOM: usize = LIMIT + 1;
 
 // A slice: so many numbers, all the same.
 struct Slice {
@@ -47,7 +48,7 @@ fn answer(
     let of_lesson = [lesson.number; ROOM];
     let of_b = [1.0; ROOM];
     let words = [8192 + places; 1];
-    let mut work = [0.0; 4200];
+    let mut work = [0.0; 64];
     let mut cone_work = [0.0; 1];
     let told = solver::solve_split(
         SolverParam::new(steps, 64),
@@ -162,8 +163,11 @@ fn write_order() {
         b"wrong slices and too many steps, refused by 1",
     );
     write_case(answer(2, 3, 1, none, none, 2, 1000001) == 1);
-    io::write_all(STDOUT_FILENO, b"wrong slices and 257 columns, refused by 2");
-    write_case(answer(2, 257, 1, none, none, 2, 10) == 2);
+    io::write_all(
+        STDOUT_FILENO,
+        b"wrong slices and 1,025 columns, refused by 2",
+    );
+    write_case(answer(2, LIMIT + 1, 1, none, none, 2, 10) == 2);
     io::write_all(
         STDOUT_FILENO,
         b"wrong slices and a list for another m, refused by 3",

@@ -47,7 +47,7 @@ pub fn transform_split(
     true
 }
 
-// The products of its rows: eight side by side, and what is left four or one.
+// The products of its rows: thirty-two side by side, and what is left eight, four or one.
 fn split_rows(
     rows: Rows,
     cols: Cols,
@@ -71,6 +71,22 @@ fn split_rows(
     let m = rows.0;
     let mut r: usize = 0;
     while r < m {
+        if r + 32 <= m {
+            rows_at(
+                rows,
+                cols,
+                first,
+                alpha,
+                factory,
+                lesson,
+                x,
+                beta,
+                &mut y[r..r + 32],
+                r,
+            );
+            r = r + 32;
+            continue;
+        }
         if r + 8 <= m {
             rows_at(
                 rows,
@@ -135,7 +151,7 @@ fn rows_at(
     requires { ⌜ SplitStored (rows .0) (cols .0) (first .0) (now factory) (now lesson) ⌝ }
     requires { ⌜ length (now x) ≡ cols .0 ⌝ }
     requires { ⌜ r + length (now y) ≤ rows .0 ⌝ }
-    requires { ⌜ length (now y) ≤ 8 ⌝ }
+    requires { ⌜ length (now y) ≤ 32 ⌝ }
     ensures { λ _. ⌜
         now (y .exit)
         ≡ each
@@ -147,7 +163,7 @@ fn rows_at(
 {
     let n1 = first.0;
     let w = y.len();
-    let mut sums = [0.0; 8];
+    let mut sums = [0.0; 32];
     rows_on(&mut sums[0..w], rows, factory, &x[0..n1], r);
     rows_on(&mut sums[0..w], rows, lesson, &x[n1..], r);
     side_by_side::put_sums(alpha, &sums[0..w], beta, y);

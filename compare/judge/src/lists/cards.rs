@@ -10,7 +10,7 @@ use std::path::Path;
 use crate::card::{read, told, Card, Told};
 use crate::cone_list::Block;
 use crate::draw::{numbers, Sort};
-use crate::families::{of_size, small, Family};
+use crate::families::{lengthen, nonnegative, of_size, small, Family};
 use crate::handed::{stored, Handed, Vector};
 use crate::lists::runs::same_over_plain;
 use crate::original::Kind;
@@ -18,6 +18,9 @@ use crate::random::Random;
 
 /// The cards of the folder cards/ that tell a story.
 const STORIES: [&str; 3] = ["fit", "contradiction", "no-bound"];
+
+/// The most words that were taken before request (vii) of document 02. Cards with more were drawn as refused ones, and still are drawn so.
+const WORDS_BEFORE: usize = 32;
 
 /// A run of more steps is not drawn by damaging a card.
 const MOST_STEPS: u64 = 1000;
@@ -37,14 +40,13 @@ struct Cards {
 }
 
 /// What is counted, in the order in which it is printed.
-const NAMES: [&str; 15] = [
+const NAMES: [&str; 14] = [
     "Card 1",
     "Card 2",
     "Card 3",
     "Card 4",
     "Card 5",
     "Refused 1",
-    "Refused 2",
     "Refused 3",
     "Refused 4",
     "Refused 5",
@@ -65,7 +67,11 @@ impl Cards {
         let answer = told(bytes);
         let name = match &answer {
             Told::Fault(number) => NAMES[*number as usize - 1],
-            Told::Refused(number) => NAMES[*number as usize + 4],
+            Told::Refused(1) => "Refused 1",
+            Told::Refused(3) => "Refused 3",
+            Told::Refused(4) => "Refused 4",
+            Told::Refused(5) => "Refused 5",
+            Told::Refused(number) => panic!("a card refused by {number}"),
             Told::Ended(problem, answer) => {
                 same_over_plain(problem, answer);
                 self.unlike_zeros += usize::from(answer.unlike_zeros > 0);
@@ -123,7 +129,7 @@ fn of_most(random: &mut Random, family: Family, most: usize) -> Handed {
     }
 }
 
-/// Sizes of 32, 32 words, a semidefinite block of order 7, and the largest max_iter.
+/// Sizes of 32, as many words, a semidefinite block of order 7, and the largest max_iter.
 fn at_the_limits(all: &mut Cards, random: &mut Random) {
     for (packed, m, n) in [
         (false, 32, 32),
@@ -212,7 +218,7 @@ fn bad_param(random: &mut Random, k: &mut Card) {
     }
 }
 
-fn too_many_words(random: &mut Random, k: &mut Card) {
+fn many_words(random: &mut Random, k: &mut Card) {
     let count = random.pick(&[33, 33, 34, 48, 62, 63]);
     let more = random.pick(&[0x0000, 0x4000, 0x8000, 0xffff]);
     k.words.resize(count, more);
@@ -252,14 +258,14 @@ fn one_not_finite(random: &mut Random, k: &mut Card) {
 
 const REFUSED: [fn(&mut Random, &mut Card); 5] = [
     bad_param,
-    too_many_words,
+    many_words,
     packed_not_square,
     bad_cone,
     one_not_finite,
 ];
 
 /// A card with a fault of each of these rows of document 01's table, that the first of them answers where
-/// neither eps_acc nor eps_inf is below zero.
+/// neither eps_acc nor eps_inf is below zero. For row 2, which answers no card, it has 33 words or more.
 fn with_faults(random: &mut Random, rows: &[usize]) -> Card {
     loop {
         let mut card = Card::of(&of_most(random, Family::Drawn, 5));
@@ -269,7 +275,8 @@ fn with_faults(random: &mut Random, rows: &[usize]) -> Card {
                 REFUSED[row - 1](random, &mut card);
             }
         }
-        if card.raised().handed().refusal() == rows.first().map(|row| *row as u64) {
+        let first = card.raised().handed().refusal_by(WORDS_BEFORE);
+        if first == rows.first().map(|row| *row as u64) {
             return card;
         }
     }
@@ -389,10 +396,14 @@ fn longest(all: &mut Cards, random: &mut Random) {
     all.push(&bytes);
 }
 
-/// Whether the original answers soon, with −0 for an eps_acc or eps_inf below zero.
+/// Whether the original was to answer soon, with −0 for an eps_acc or eps_inf below zero: a card with more words than were taken before was
+/// refused, and is taken whatever its max_iter.
 fn is_short(bytes: &[u8]) -> bool {
     match read(bytes) {
-        Ok(card) => card.raised().handed().refusal().is_some() || card.max_iter <= MOST_STEPS,
+        Ok(card) => {
+            let refusal = card.raised().handed().refusal_by(WORDS_BEFORE);
+            refusal.is_some() || card.max_iter <= MOST_STEPS
+        }
         Err(_) => true,
     }
 }
@@ -447,6 +458,24 @@ fn below_zero(all: &mut Cards, random: &mut Random) {
     }
 }
 
+/// 33 to 63 words that sum to m: blocks of size 0 anywhere among the others, or among 32 blocks of one place.
+fn longer_lists(all: &mut Cards, random: &mut Random) {
+    for count in [33, 34, 48, 62, 63] {
+        for family in [Family::Drawn, Family::Solvable, Family::FewSweeps] {
+            for most in [8, 8, 8, 32] {
+                let mut p = of_most(random, family, most).raised();
+                p.max_iter = p.max_iter.min(100);
+                lengthen(random, &mut p.words, count);
+                all.good(&p);
+            }
+        }
+        let mut p = of_size(random, Family::Contradictory, false, 32, 3).raised();
+        p.words = nonnegative(32, 32);
+        lengthen(random, &mut p.words, count);
+        all.good(&p);
+    }
+}
+
 fn drawn(seed: u64, all: &mut Cards) {
     let mut random = Random::new(seed);
     all.push(&empty().bytes());
@@ -481,6 +510,7 @@ fn drawn(seed: u64, all: &mut Cards) {
     for card in std::mem::take(&mut all.raised) {
         all.push(&card.bytes());
     }
+    longer_lists(all, &mut random);
 }
 
 /// Writes standard input and output of the program in `folder`; the cards that tell a story are in

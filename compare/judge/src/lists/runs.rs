@@ -2,6 +2,7 @@
 //! original answers. The layout of each record is in compare/README.md.
 
 mod refusals;
+mod term;
 
 use std::collections::BTreeMap;
 use std::path::Path;
@@ -108,7 +109,8 @@ pub fn same_over_plain(p: &Problem, answer: &Answer) {
 fn asked(p: &Handed) -> Vec<u64> {
     let mut all = vec![p.max_iter, p.sweep_limit];
     all.extend([p.eps_acc, p.eps_inf, p.eps_zero].map(f64::to_bits));
-    all.extend([u64::from(p.packed), p.n as u64, p.m as u64]);
+    let storage = if p.twice { 2 } else { u64::from(p.packed) };
+    all.extend([storage, p.n as u64, p.m as u64]);
     all.push(p.words.len() as u64);
     all.extend(p.words.iter().map(|w| u64::from(*w)));
     for v in [&p.c, &p.a, &p.b] {
@@ -210,38 +212,44 @@ fn large(all: &mut Records, random: &mut Random) {
     for (packed, m, n, times) in shapes {
         for _ in 0..times {
             let family = random.pick(&[Family::Drawn, Family::Solvable, Family::LargeEpsZero]);
-            let mut p = of_size(random, family, packed, m, n);
-            p.c.given.truncate(29);
-            p.a.given.truncate(97);
-            p.b.given.truncate(31);
+            let mut p = repeating(of_size(random, family, packed, m, n));
             p.max_iter = random.pick(&[1, 2, 3, 5, 8]);
             all.take(&p);
         }
     }
 }
 
-/// Semidefinite blocks up to the largest that m allows.
+/// The problem with few numbers in each vector, which repeat.
+fn repeating(mut p: Handed) -> Handed {
+    p.c.given.truncate(29);
+    p.a.given.truncate(97);
+    p.b.given.truncate(31);
+    p
+}
+
+/// Two steps on one block of so many places, and two columns.
+fn of_one_block(random: &mut Random, kind: Kind, size: usize, sweep_limit: u64) -> Handed {
+    let mut p = of_size(random, Family::Drawn, false, size, 2);
+    p.c = Vector::whole(vec![1.0, -2.0]);
+    p.a.given = numbers(random, Sort::Ordinary, 41);
+    p.b.given = numbers(random, Sort::Whole, 37);
+    p.words = vec![Block { kind, size }.word()];
+    p.cone_work = p.needed_cone_work() + 1;
+    (p.max_iter, p.sweep_limit, p.eps_zero) = (2, sweep_limit, 1e-12);
+    p
+}
+
+/// Semidefinite blocks up to order 22; `term` has larger ones.
 fn large_blocks(all: &mut Records, random: &mut Random) {
     for order in [10, 15, 20, 22] {
         let m = order * (order + 1) / 2;
         for sweep_limit in [3, 64] {
-            let mut p = of_size(random, Family::Drawn, false, m, 2);
-            p.c = Vector::whole(vec![1.0, -2.0]);
-            p.a.given = numbers(random, Sort::Ordinary, 41);
-            p.b.given = numbers(random, Sort::Whole, 37);
-            p.words = vec![Block {
-                kind: Kind::Semidefinite,
-                size: m,
-            }
-            .word()];
-            p.cone_work = p.needed_cone_work() + 1;
-            (p.max_iter, p.sweep_limit, p.eps_zero) = (2, sweep_limit, 1e-12);
-            all.take(&p);
+            all.take(&of_one_block(random, Kind::Semidefinite, m, sweep_limit));
         }
     }
 }
 
-/// The largest max_iter, on problems that end early all the same, and the most cone words.
+/// The largest max_iter, on problems that end early all the same, and lists of 32 words; `term` has longer ones.
 fn at_the_limits(all: &mut Records, random: &mut Random) {
     let mut met = 0;
     while met < 40 {
@@ -332,6 +340,7 @@ fn records(seed: u64) -> Records {
     for p in std::mem::take(&mut all.raised) {
         all.take(&p);
     }
+    term::all(&mut all, &mut random);
     all
 }
 
@@ -359,22 +368,25 @@ pub fn make(seed: u64, path: &Path) -> std::io::Result<()> {
 #[cfg(test)]
 mod tests {
     use super::*;
+    use crate::handed::LIMIT;
 
     /// Each record names its own end, a seed draws the same list again, and no answer is rare.
     #[test]
     fn records_follow_one_another() {
         let all = records(1);
+        // What crates/replay_runs has room for.
+        let room = work_places(LIMIT + 16, LIMIT + 16) as u64 + 512;
         let (mut at, mut met) = (0, 0);
         while at < all.words.len() {
             assert!(all.words[at] < 32);
-            assert!(all.words[at + 1] <= 5000);
+            assert!(all.words[at + 1] <= room);
             at += 2 + all.words[at + 1] as usize;
             met += 1;
         }
         assert_eq!(at, all.words.len());
         assert_eq!(met, all.counts.values().sum::<usize>());
         assert_eq!(all.words, records(1).words);
-        assert!(all.words.len() * 8 <= 6_500_000);
+        assert!(all.words.len() * 8 <= 10_000_000);
         for (number, name) in NAMES {
             assert!(all.counts[&number] >= 100, "{name}");
         }

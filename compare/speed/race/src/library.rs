@@ -17,6 +17,7 @@ type Timed = unsafe extern "C" fn(
     *mut f64, usize, *mut f64, usize,
 ) -> u64;
 
+type Limit = unsafe extern "C" fn() -> usize;
 pub type Root = unsafe extern "C" fn(f64) -> f64;
 /// The number, its pattern, and the power of two of its root's least digit.
 pub type Guess = unsafe extern "C" fn(f64, u64, u64) -> f64;
@@ -25,6 +26,8 @@ pub struct Library {
     dense: Timed,
     packed: Timed,
     split: Option<Timed>,
+    /// The largest n and m that it takes.
+    limit: usize,
     pub root: Root,
     pub guess: Guess,
 }
@@ -45,21 +48,23 @@ impl Library {
                 dense: std::mem::transmute(needed("timed_dense")),
                 packed: std::mem::transmute(needed("timed_packed")),
                 split: found("timed_split").map(|f| std::mem::transmute(f)),
+                limit: std::mem::transmute::<_, Limit>(needed("timed_limit"))(),
                 root: std::mem::transmute(needed("timed_root")),
                 guess: std::mem::transmute(needed("timed_guess")),
             }
         }
     }
 
-    /// A run of a case of that form, which answers the steps taken.
-    pub fn solve(&self, form: Form) -> Option<impl Fn(u64, &Case, &Problem, &mut [f64], &mut [f64]) -> u64> {
-        let timed = match form {
+    /// A run of the case, which answers the steps taken; none where the checkout is older than its form or its size.
+    pub fn solve<'a>(&self, case: &'a Case) -> Option<impl Fn(u64, &Problem, &mut [f64], &mut [f64]) -> u64 + 'a> {
+        let timed = match case.form {
             Form::Dense => Some(self.dense),
             Form::Packed => Some(self.packed),
             Form::Split => self.split,
         };
-        timed.map(|timed| {
-            move |steps: u64, case: &Case, p: &Problem, work: &mut [f64], cone_work: &mut [f64]| unsafe {
+        let fits = case.n.max(case.m) <= self.limit;
+        timed.filter(|_| fits).map(|timed| {
+            move |steps: u64, p: &Problem, work: &mut [f64], cone_work: &mut [f64]| unsafe {
                 timed(
                     steps, case.m, case.n,
                     p.c.as_ptr(), p.c.len(), p.a.as_ptr(), p.a.len(), p.b.as_ptr(), p.b.len(),

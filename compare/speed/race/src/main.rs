@@ -3,6 +3,7 @@
 mod library;
 mod problems;
 mod root;
+mod stack;
 
 use std::time::Instant;
 
@@ -41,11 +42,11 @@ fn race(case: &Case, libraries: &[Library], seconds: f64) -> Raced {
         let theirs = p.run::<f64>();
         original = start.elapsed().as_secs_f64().min(original);
         for (library, best) in libraries.iter().zip(&mut ours) {
-            let Some(solve) = library.solve(case.form) else { continue };
+            let Some(solve) = library.solve(case) else { continue };
             let mut work = vec![0.0; 6 * case.n + 10 * case.m + 6];
             let mut cone_work = vec![0.0; work_len(&p.blocks)];
             let start = Instant::now();
-            let steps = solve(STEPS, case, &p, &mut work, &mut cone_work);
+            let steps = solve(STEPS, &p, &mut work, &mut cone_work);
             let took = start.elapsed().as_secs_f64();
             *best = Some(best.map_or(took, |b: f64| b.min(took)));
             differing += unlike(&theirs.work, &work) + unlike(&theirs.cone_work, &cone_work);
@@ -81,6 +82,7 @@ fn main() {
     }
     if asked.is_empty() {
         differing += root::race(&libraries, seconds);
+        stack::count(&libraries);
     }
     if differing > 0 {
         std::process::exit(1);

@@ -92,7 +92,8 @@ impl Case {
 
 /// Request (vi)'s first, then small ones, a scale, a packed one, blocks, and two slices.
 pub fn all() -> Vec<Case> {
-    let words = "vi dense:3:8 dense:12:12 dense:16:64 dense:64:64 dense:128:128 dense:256:256 packed:3 packed:12 packed:32 packed:128 \
-                 psd:4:6 psd:8:45 psd:8:171 split:3:8 split:64:128 split:128:128";
+    let words = "vi dense:3:8 dense:12:12 dense:16:64 dense:64:64 dense:128:128 dense:256:256 dense:512:512 dense:1024:1024 dense:3:1024 \
+                 packed:3 packed:12 packed:32 packed:128 packed:1024 psd:4:6 psd:8:45 psd:8:171 psd:2:990 split:3:8 split:64:128 split:128:128 \
+                 split:1024:1024";
     words.split_whitespace().map(Case::read).collect()
 }

@@ -7,10 +7,10 @@ use Rattle.replay_runs.proofs.replay.Statement.{statement}
 use Rattle.replay_runs.proofs.replay.Tie as tie
 
 abbrev Inv-loop : tie.InvT-loop
-Inv-loop records a₀ agree₀ differ₀ counter₀ a agree differ counter = (counter ≤ records) × (length a ≡ length a₀)
+Inv-loop records bytes₀ a₀ agree₀ differ₀ counter₀ bytes a agree differ counter = (counter ≤ records) × (length bytes ≡ length bytes₀) × (length a ≡ length a₀)
 
 abbrev μ-loop : tie.MeasureT-loop
-μ-loop records a₀ agree₀ differ₀ counter₀ a agree differ counter = records - counter
+μ-loop records bytes₀ a₀ agree₀ differ₀ counter₀ bytes a agree differ counter = records - counter
 
 loop-holds : tie.Need-loop-holds Inv-loop μ-loop
 loop-holds c = search needs
@@ -20,6 +20,9 @@ replay-one-requires c κs = search needs
 
 same-length : tie.Need-same-length Inv-loop μ-loop
 same-length c = search needs
+
+same-length-2 : tie.Need-same-length-2 Inv-loop μ-loop
+same-length-2 c = search needs
 
 returns : tie.Need-returns Inv-loop μ-loop
 returns c = search needs
@@ -36,8 +39,11 @@ loop-again c = search needs
 at-end-requires : tie.Need-at-end-requires Inv-loop μ-loop
 at-end-requires c κs = search needs
 
-same-length-2 : tie.Need-same-length-2 Inv-loop μ-loop
-same-length-2 c = search needs
+same-length-3 : tie.Need-same-length-3 Inv-loop μ-loop
+same-length-3 c = search needs
+
+same-length-4 : tie.Need-same-length-4 Inv-loop μ-loop
+same-length-4 c = search needs
 
 returns-2 : tie.Need-returns-2 Inv-loop μ-loop
 returns-2 c = search needs
@@ -51,10 +57,12 @@ replay-spec =
     loop-holds
     replay-one-requires
     same-length
+    same-length-2
     returns
     add-counter
     loop-less
     loop-again
     at-end-requires
-    same-length-2
+    same-length-3
+    same-length-4
     returns-2)

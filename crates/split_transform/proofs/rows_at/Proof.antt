@@ -29,7 +29,7 @@ rows-on-requires : tie.Need-rows-on-requires
 rows-on-requires c κs =
     let p = c .before .before .before .before .before .before .pre in
     let k = c .before .before .before .before .before .before .args in
-    (first-fits (p .0) (k .x .now) (p .1 .0), (p .0 .m-within, (omega (arith, x₁-length (p .0) (k .x .now) (p .1 .0), p .0 .cut, p .0 .n-within), rw (lanes-count (lanes-start 8 _ (c .before .before .before .before .before .before .pre .1 .1 .1))) (p .1 .1 .0))))
+    (first-fits (p .0) (k .x .now) (p .1 .0), (p .0 .m-within, (omega (arith, x₁-length (p .0) (k .x .now) (p .1 .0), p .0 .cut, p .0 .n-within), rw (lanes-count (lanes-start 32 _ (c .before .before .before .before .before .before .pre .1 .1 .1))) (p .1 .1 .0))))
 
 sub-rows-on-3 : tie.Need-sub-rows-on-3
 sub-rows-on-3 c = search needs
@@ -39,7 +39,7 @@ part-sums-start-2 c = search needs
 
 part-sums-end-2 : tie.Need-part-sums-end-2
 part-sums-end-2 c =
-    let l = lanes-on (lanes-start 8 _ (c .before .before .before .before .before .before .before .before .pre .1 .1 .1)) _ _ (c .before .rows-on .ensures) in
+    let l = lanes-on (lanes-start 32 _ (c .before .before .before .before .before .before .before .before .pre .1 .1 .1)) _ _ (c .before .rows-on .ensures) in
     omega (arith, l .long, l .few)
 
 mul-rows-on : tie.Need-mul-rows-on
@@ -58,7 +58,7 @@ rows-on-requires-2 : tie.Need-rows-on-requires-2
 rows-on-requires-2 c κs =
     let p = c .before .before .before .before .before .before .before .before .before .before .pre in
     let k = c .before .before .before .before .before .before .before .before .before .before .args in
-    (rest-fits (p .0) (k .x .now) (p .1 .0), (p .0 .m-within, (omega (arith, x₂-length (p .0) (k .x .now) (p .1 .0), p .0 .n-within), rw (lanes-count (lanes-on (lanes-start 8 _ (c .before .before .before .before .before .before .before .before .before .before .pre .1 .1 .1)) _ _ (c .before .before .before .rows-on .ensures))) (p .1 .1 .0))))
+    (rest-fits (p .0) (k .x .now) (p .1 .0), (p .0 .m-within, (omega (arith, x₂-length (p .0) (k .x .now) (p .1 .0), p .0 .n-within), rw (lanes-count (lanes-on (lanes-start 32 _ (c .before .before .before .before .before .before .before .before .before .before .pre .1 .1 .1)) _ _ (c .before .before .before .rows-on .ensures))) (p .1 .1 .0))))
 
 sub-put-sums : tie.Need-sub-put-sums
 sub-put-sums c = search needs
@@ -68,7 +68,7 @@ part-put-sums-start c = search needs
 
 part-put-sums-end : tie.Need-part-put-sums-end
 part-put-sums-end c =
-    let l = lanes-on (lanes-on (lanes-start 8 _ (c .before .before .before .before .before .before .before .before .before .before .before .before .before .pre .1 .1 .1)) _ _ (c .before .before .before .before .before .before .rows-on .ensures)) _ _ (c .before .before .rows-on2 .ensures) in
+    let l = lanes-on (lanes-on (lanes-start 32 _ (c .before .before .before .before .before .before .before .before .before .before .before .before .before .pre .1 .1 .1)) _ _ (c .before .before .before .before .before .before .rows-on .ensures)) _ _ (c .before .before .rows-on2 .ensures) in
     omega (arith, l .long, l .few)
 
 put-sums-requires : tie.Need-put-sums-requires
@@ -81,7 +81,7 @@ returns : tie.Need-returns
 returns c =
     let p = c .before .before .before .before .before .before .before .before .before .before .before .before .before .before .before .before .before .before .pre in
     let k = c .before .before .before .before .before .before .before .before .before .before .before .before .before .before .before .before .before .before .args in
-    let l = lanes-on (lanes-on (lanes-start 8 _ (c .before .before .before .before .before .before .before .before .before .before .before .before .before .before .before .before .before .before .pre .1 .1 .1)) _ _ (c .before .before .before .before .before .before .before .before .before .before .before .rows-on .ensures)) _ _ (c .before .before .before .before .before .before .before .rows-on2 .ensures) in
+    let l = lanes-on (lanes-on (lanes-start 32 _ (c .before .before .before .before .before .before .before .before .before .before .before .before .before .before .before .before .before .before .pre .1 .1 .1)) _ _ (c .before .before .before .before .before .before .before .before .before .before .before .rows-on .ensures)) _ _ (c .before .before .before .before .before .before .before .rows-on2 .ensures) in
     sums-put (k .alpha) (k .beta) _ _ (k .y .now) _ refl (l .are ∙ each-after _ _ _) (c .before .before .put-sums .ensures)
     ∙ rows-run-on (p .0) (k .x .now) (k .alpha) (k .beta) (k .r) (k .y .now) (p .1 .0) (p .1 .1 .0)
 

@@ -5,9 +5,14 @@
 use crate::cone_list::Block;
 use crate::draw::{numbers, Sort};
 use crate::families::{of_size, small, Family};
-use crate::handed::{stored, work_places, Handed, Vector, TOO_LARGE, WORK_SHORTAGE};
+use crate::handed::{
+    stored, work_places, Handed, Vector, LIMIT, MOST_WORDS, TOO_LARGE, WORK_SHORTAGE,
+};
 use crate::original::Kind;
 use crate::random::Random;
+
+/// The most numbers of A that the replay has room for.
+pub const MOST_OF_A: usize = LIMIT * (LIMIT + 1) / 2;
 
 /// A problem of n and m up to 5.
 pub fn base(random: &mut Random) -> Handed {
@@ -41,8 +46,8 @@ fn bad_param(random: &mut Random, p: &mut Handed) {
     }
 }
 
-/// The problem with these sizes, all else fitting.
-fn resized(random: &mut Random, p: &mut Handed, m: usize, n: usize) {
+/// The problem with these sizes, all else fitting; but of a matrix that the replay has no room for there is no number.
+pub fn resized(random: &mut Random, p: &mut Handed, m: usize, n: usize) {
     p.packed = p.packed && m == n;
     (p.m, p.n) = (m, n);
     let vector = |random: &mut Random, length: usize| Vector {
@@ -51,6 +56,9 @@ fn resized(random: &mut Random, p: &mut Handed, m: usize, n: usize) {
     };
     p.c = vector(random, n);
     p.a = vector(random, stored(p.packed, m, n));
+    if p.a.length > MOST_OF_A {
+        p.a = Vector::whole(vec![]);
+    }
     p.b = vector(random, m);
     let size = m;
     let kind = Kind::Nonnegative;
@@ -61,19 +69,19 @@ fn resized(random: &mut Random, p: &mut Handed, m: usize, n: usize) {
 fn too_large(random: &mut Random, p: &mut Handed) {
     let small = random.within(0, 3);
     match random.below(7) {
-        0 => resized(random, p, small, 257),
-        1 => resized(random, p, 257, small),
+        0 => resized(random, p, small, LIMIT + 1),
+        1 => resized(random, p, LIMIT + 1, small),
         2 => {
             p.packed = random.one_in(2);
-            resized(random, p, 257, 257);
+            resized(random, p, LIMIT + 1, LIMIT + 1);
         }
-        3 => resized(random, p, 256, 257),
+        3 => resized(random, p, LIMIT, LIMIT + 1),
         // Sizes whose products and sums would wrap, with the lengths of others.
         4 => p.n = random.pick(&[1 << 32, 1 << 63, usize::MAX]),
         5 => p.m = random.pick(&[1 << 32, 1 << 63, usize::MAX]),
         // Words of size 0.
         _ => p.words.resize(
-            random.within(33, 36),
+            random.within(MOST_WORDS + 1, MOST_WORDS + 4),
             random.pick(&[0x0000, 0x4000, 0x8000]),
         ),
     }
@@ -166,7 +174,8 @@ fn one_not_finite(random: &mut Random, p: &mut Handed) {
 }
 
 fn work_shortage(random: &mut Random, p: &mut Handed) {
-    let needed = work_places(p.m.min(300), p.n.min(300));
+    let most = LIMIT + 1;
+    let needed = work_places(p.m.min(most), p.n.min(most));
     match random.below(4) {
         0 | 1 => p.work = needed - 1,
         2 => p.work = random.within(0, needed - 1),

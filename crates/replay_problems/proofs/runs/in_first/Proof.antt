@@ -11,6 +11,9 @@ size-requires c κs = search needs
 enum-told : tie.Need-enum-told
 enum-told c = search needs
 
+enum-told-2 : tie.Need-enum-told-2
+enum-told-2 c = search needs
+
 enum-known-cut : tie.Need-enum-known-cut
 enum-known-cut c = search needs
 
@@ -32,16 +35,21 @@ returns-4 c = search needs
 returns-5 : tie.Need-returns-5
 returns-5 c = search needs
 
+returns-6 : tie.Need-returns-6
+returns-6 c = search needs
+
 pub in-first-spec : {M : Type 1} → statement M
 in-first-spec =
     tie.close
     (tie.spec
     size-requires
     enum-told
+    enum-told-2
     enum-known-cut
     returns
     returns-2
     mul-asked
     returns-3
     returns-4
-    returns-5)
+    returns-5
+    returns-6)

@@ -10,29 +10,11 @@ use lib.Ieee.{Float, nan, binary64, toBits}
 use lib.Dec.{ltb}
 use lib.ListN.{length, take, drop, getD, set}
 use borrow.Author.Tests.{ltb-true, ltb-false}
-use lib.Seq.{take-suc, take-suc-set, take-length, drop-drop, drop-set-lt}
+use lib.Seq.{take-suc, take-suc-set, take-length, drop-set-lt}
 use Rattle.io.specs.Digits.{digits, Fewest}
+use Rattle.rules.proofs.Growing.{kept-on, grown-on}
 use Rattle.card_text.specs.Text.{newline, space, numberLine, numberLines, Numbered, FirstLine, Ended, Says}
 use Rattle.card_text.specs.Growing.{Grown}
-
--- ---- the places after a text are kept
-
-further : (r s : ℕ) (t u : List ℕ) → r ≤ s → drop r t ≡ drop r u → drop s t ≡ drop s u
-further r s t u h e =
-    let there : r + (s - r) ≡ s = omega arith in
-    sym (ap (λ (k : ℕ). drop k t) there)
-    ∙ sym (drop-drop (s - r) r t)
-    ∙ ap (drop (s - r)) e
-    ∙ drop-drop (s - r) r u
-    ∙ ap (λ (k : ℕ). drop k u) there
-
-kept-on : (r s : ℕ) (t₀ t₁ t₂ : List ℕ) → r ≤ s → drop r t₁ ≡ drop r t₀ → drop s t₂ ≡ drop s t₁ → drop s t₂ ≡ drop s t₀
-kept-on r s t₀ t₁ t₂ h e f = f ∙ further r s t₁ t₀ h e
-
--- a part after a part
-grown-on : (at r s : ℕ) (t₀ t₁ t₂ first second : List ℕ) → r ≤ s → Grown at t₀ first r t₁ → Grown r t₁ second s t₂ → Grown at t₀ (first ++ second) s t₂
-grown-on at r s t₀ t₁ t₂ first second h f g =
-    record { text = g .text ∙ rw (f .text) (append-assoc (take at t₀) first second); kept = kept-on r s t₀ t₁ t₂ h (f .kept) (g .kept) }
 
 -- ---- bytes put one after another
 

@@ -29,4 +29,5 @@ pub mod Projections
 pub mod ConeProduct
 pub mod Kernels
 pub mod Parts
+pub mod Growing
 pub mod WorkedByHand

@@ -2,6 +2,7 @@
 pub mod Limits
 pub mod Parameters
 pub mod Outcome
+pub mod Growing
 pub mod Helpers
 pub mod Root
 pub mod Arithmetic

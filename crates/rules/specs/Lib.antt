@@ -9,6 +9,7 @@ pub mod Arithmetic
 pub mod Vectors
 pub mod Matrices
 pub mod Blocks
+pub mod Groups
 pub mod Jacobi
 pub mod Projections
 pub mod Product

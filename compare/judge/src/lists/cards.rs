@@ -2,6 +2,8 @@
 //! has the number of cards and then each with its length before it; standard output the answers, one
 //! after another.
 
+mod grouped;
+
 use std::collections::BTreeMap;
 use std::fs;
 use std::io::{Error, Result};
@@ -91,6 +93,12 @@ impl Cards {
         let bytes = Card::of(p).bytes();
         assert_eq!(read(&bytes), Ok(Card::of(p)));
         self.push(&bytes);
+    }
+
+    fn all_good(&mut self, problems: Vec<Handed>) {
+        for p in &problems {
+            self.good(p);
+        }
     }
 
     fn input(&self) -> Vec<u8> {
@@ -512,6 +520,7 @@ fn drawn(seed: u64, all: &mut Cards) {
         all.push(&card.bytes());
     }
     longer_lists(all, &mut random);
+    grouped::all(all, &mut random);
 }
 
 /// Writes standard input and output of the program in `folder`; the cards that tell a story are in

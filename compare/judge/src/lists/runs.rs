@@ -1,6 +1,7 @@
 //! The list of runs: a whole problem, what is lent with it, and what document 01's table or the
 //! original answers. The layout of each record is in compare/README.md.
 
+mod grouped;
 mod refusals;
 mod term;
 
@@ -145,6 +146,12 @@ impl Records {
         match p.refusal() {
             Some(number) => self.refused(p, number),
             None => self.run(p),
+        }
+    }
+
+    fn take_all(&mut self, problems: Vec<Handed>) {
+        for p in &problems {
+            self.take(p);
         }
     }
 
@@ -341,6 +348,7 @@ fn records(seed: u64) -> Records {
         all.take(&p);
     }
     term::all(&mut all, &mut random);
+    grouped::all(&mut all, &mut random);
     all
 }
 

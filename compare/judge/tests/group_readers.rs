@@ -6,6 +6,9 @@ mod stored;
 use judge::groups::GROUP;
 use judge::handed::{Handed, ListRule, LIST_RULE, MOST_WORDS};
 
+/// The plain words of a list, if it is not bad.
+type Reader = fn(&[u16]) -> Option<Vec<u16>>;
+
 fn is_group(word: u16) -> bool {
     word >> 13 == GROUP
 }
@@ -54,10 +57,8 @@ fn by_ends(words: &[u16], from: usize, end: usize, deepest: usize, past: Past) -
 }
 
 fn read_by_ends(words: &[u16], deepest: usize, past: Past) -> Option<Vec<u16>> {
-    plain_if(
-        by_ends(words, 0, words.len(), deepest, past).is_some(),
-        words,
-    )
+    let end = by_ends(words, 0, words.len(), deepest, past);
+    plain_if(end.is_some(), words)
 }
 
 fn as_the_rule(words: &[u16]) -> Option<Vec<u16>> {
@@ -143,7 +144,7 @@ fn eight_groups_in_all(words: &[u16]) -> Option<Vec<u16>> {
 }
 
 /// The readers that refuse other lists.
-const READERS: [(&str, fn(&[u16]) -> Option<Vec<u16>>); 8] = [
+const READERS: [(&str, Reader); 8] = [
     ("a size counts plain blocks", blocks_counted),
     (
         "a size counts the words of its own level",
@@ -157,7 +158,7 @@ const READERS: [(&str, fn(&[u16]) -> Option<Vec<u16>>); 8] = [
     ("eight groups in all", eight_groups_in_all),
 ];
 
-fn with(plain: fn(&[u16]) -> Option<Vec<u16>>) -> ListRule {
+fn with(plain: Reader) -> ListRule {
     ListRule { plain, ..LIST_RULE }
 }
 

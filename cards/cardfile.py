@@ -198,8 +198,8 @@ def wrong_word(kind, size, after, deep):
     if name == "group" and deep == SOLVER_GROUPS:
         return f"a group {deep + 1} deep; {SOLVER_GROUPS} is the most"
     if name == "group" and size > after:
-        has = f"which has {counted(after, 'word')} after it"
-        return f"a group of {counted(size, 'word')} runs past the list that it stands in, {has}"
+        left = f"where {counted(after, 'word')} {'follows' if after == 1 else 'follow'}"
+        return f"a group of {counted(size, 'word')} runs past the list that it stands in, {left}"
     return None
 
 

@@ -1,5 +1,5 @@
 -- Laws of a text that grows in a buffer.
-use Prim.Native.Nat.{ℕ, suc, _+_, _-_, _^_, _≤_, _<_}
+use Prim.Native.Nat.{ℕ, _+_, _-_, _^_, _≤_, _<_}
 use native.Mathlib.Nat.{pow-le-pow-right}
 use native.Mathlib.Numerals.{add-one}
 use native.Mathlib.Omega.{arith}
@@ -10,9 +10,9 @@ use lib.Ieee.{Float, nan, binary64, toBits}
 use lib.Dec.{ltb}
 use lib.ListN.{length, take, drop, getD, set}
 use borrow.Author.Tests.{ltb-true, ltb-false}
-use lib.Seq.{take-suc, take-suc-set, take-length, drop-set-lt}
+use lib.Seq.{take-suc, take-length}
 use Rattle.io.specs.Digits.{digits, Fewest}
-use Rattle.rules.proofs.Growing.{kept-on, grown-on}
+use Rattle.rules.proofs.Growing.{kept-on, grown-on, grown-none, grown-one}
 use Rattle.card_text.specs.Text.{newline, space, numberLine, numberLines, Numbered, FirstLine, Ended, Says}
 use Rattle.card_text.specs.Growing.{Grown}
 
@@ -21,17 +21,14 @@ use Rattle.card_text.specs.Growing.{Grown}
 pub put-none : (at : ℕ) (text bytes : List ℕ) → Grown at text (take 0 bytes) (at + 0) text
 put-none at text bytes =
     let e : at + 0 ≡ at = omega arith in
-    record { text = rw e (sym (append-nil (take at text))); kept = refl }
+    rw e (grown-none at text)
 
 pub put-more : (at i v : ℕ) (before text bytes : List ℕ) → Grown at before (take i bytes) (at + i) text → at + i < length text → i < length bytes → v ≡ getD bytes i 0
     → Grown at before (take (i + 1) bytes) (at + (i + 1)) (set text (at + i) v)
 put-more at i v before text bytes e h g is =
-    let next : at + (i + 1) ≡ suc (at + i) = omega arith in
-    let more : take (suc i) bytes ≡ take i bytes ++ v ∷ [] = rw is (take-suc bytes i 0 g) in
-    record {
-      text = rw (next, add-one i, take-suc-set text (at + i) v h, e .text, more) (append-assoc (take at before) (take i bytes) (v ∷ []));
-      kept = kept-on (at + i) (at + (i + 1)) before text (set text (at + i) v) (omega arith) (e .kept) (drop-set-lt (at + (i + 1)) text (at + i) v (omega arith));
-    }
+    let next : at + (i + 1) ≡ at + i + 1 = omega arith in
+    let more : take (i + 1) bytes ≡ take i bytes ++ v ∷ [] = rw (add-one i, is) (take-suc bytes i 0 g) in
+    rw (next, more) (grown-on at (at + i) (at + i + 1) before text (set text (at + i) v) (take i bytes) (v ∷ []) (omega arith) e (grown-one (at + i) v text h))
 
 pub put-all : (at i : ℕ) (before text bytes : List ℕ) → Grown at before (take i bytes) (at + i) text → i ≡ length bytes → Grown at before bytes (at + length bytes) text
 put-all at i before text bytes e h = rw (h, take-length bytes) at e
@@ -82,7 +79,7 @@ number-put x at count middle r before between after ds sixteen as-many spelled e
 
 pub lines-none : (at : ℕ) (text : List ℕ) (numbers : List Float) → Grown at text (numberLines (take 0 numbers)) at text
 unfolding numberLines
-lines-none at text numbers = record { text = sym (append-nil (take at text)); kept = refl }
+lines-none at text numbers = grown-none at text
 
 lines-append : (xs ys : List Float) → numberLines (xs ++ ys) ≡ numberLines xs ++ numberLines ys
 unfolding numberLines

@@ -39,63 +39,38 @@ abbrev read-list-below : ℕ → In 2 read-list-kinds.ps
 read-list-below t =
     and 2 read-list-kinds.ps (falls 2 read-list-kinds.ps _<_ μ-read-list t) read-list.Pre
 
-read-item-add-next :
-    (t : ℕ) →
-    read-item-lts.Need-add-next
-    (read-list-below t, read-list.Post)
-    (read-item-at t)
-    read-item.Post
+-- what is known of the functions that each one calls
+abbrev read-item-claims : ℕ → read-item-lts.Claims
+read-item-claims t = (read-list-below t, read-list.Post)
+
+abbrev read-list-claims : ℕ → read-list-lts.Claims
+read-list-claims t = (opens-reads.Asked, opens-reads.Learnt, own-words-reads.Asked, own-words-reads.Learnt, read-item-below t, read-item.Post)
+
+read-item-add-next : (t : ℕ) → read-item-lts.Need-add-next (read-item-claims t) (read-item-at t) read-item.Post
 read-item-add-next t c = search needs
 
-read-item-sub-read-list : (t : ℕ) → read-item-lts.Need-sub-read-list (
-  read-list-below t,
-  read-list.Post,
-) (read-item-at t) read-item.Post
+read-item-sub-read-list : (t : ℕ) → read-item-lts.Need-sub-read-list (read-item-claims t) (read-item-at t) read-item.Post
 read-item-sub-read-list t c = omega (arith, c .before .before .before .pre .1 .1 (c .if1 .taken))
 
-read-item-read-list-requires : (t : ℕ) → read-item-lts.Need-read-list-requires (
-  read-list-below t,
-  read-list.Post,
-) (read-item-at t) read-item.Post
+read-item-read-list-requires : (t : ℕ) → read-item-lts.Need-read-list-requires (read-item-claims t) (read-item-at t) read-item.Post
 read-item-read-list-requires t c κs = search needs
 
-read-item-same-length : (t : ℕ) → read-item-lts.Need-same-length (
-  read-list-below t,
-  read-list.Post,
-) (read-item-at t) read-item.Post
+read-item-same-length : (t : ℕ) → read-item-lts.Need-same-length (read-item-claims t) (read-item-at t) read-item.Post
 read-item-same-length t c = search needs
 
-read-item-returns :
-    (t : ℕ) →
-    read-item-lts.Need-returns (read-list-below t, read-list.Post) (read-item-at t) read-item.Post
+read-item-returns : (t : ℕ) → read-item-lts.Need-returns (read-item-claims t) (read-item-at t) read-item.Post
 read-item-returns t c = rw (c .before .before .before .before .if1 .taken) (c .before .before .read-list .ensures)
 
-read-item-mul-plain :
-    (t : ℕ) →
-    read-item-lts.Need-mul-plain
-    (read-list-below t, read-list.Post)
-    (read-item-at t)
-    read-item.Post
+read-item-mul-plain : (t : ℕ) → read-item-lts.Need-mul-plain (read-item-claims t) (read-item-at t) read-item.Post
 read-item-mul-plain t c = search needs
 
-read-item-slice-write-plain : (t : ℕ) → read-item-lts.Need-slice-write-plain (
-  read-list-below t,
-  read-list.Post,
-) (read-item-at t) read-item.Post
+read-item-slice-write-plain : (t : ℕ) → read-item-lts.Need-slice-write-plain (read-item-claims t) (read-item-at t) read-item.Post
 read-item-slice-write-plain t c = search needs
 
-read-item-same-length-2 : (t : ℕ) → read-item-lts.Need-same-length-2 (
-  read-list-below t,
-  read-list.Post,
-) (read-item-at t) read-item.Post
+read-item-same-length-2 : (t : ℕ) → read-item-lts.Need-same-length-2 (read-item-claims t) (read-item-at t) read-item.Post
 read-item-same-length-2 t c = search needs
 
-read-item-returns-2 :
-    (t : ℕ) →
-    read-item-lts.Need-returns-2
-    (read-list-below t, read-list.Post)
-    (read-item-at t)
-    read-item.Post
+read-item-returns-2 : (t : ℕ) → read-item-lts.Need-returns-2 (read-item-claims t) (read-item-at t) read-item.Post
 read-item-returns-2 t c =
     let k = c .before .before .before .args in
     rw (c .if1 .left) (put-one (k .at) (k .word) (k .plain .now) (omega (arith, c .before .before .before .pre .1 .0)))
@@ -107,158 +82,53 @@ read-list-Inv-loop words levels plain₀ at end₀ i₀ plain end i =
 abbrev read-list-μ-loop : read-list-lts.MeasureT-loop
 read-list-μ-loop words levels plain₀ at end₀ i₀ plain end i = length words - i
 
-read-list-loop-holds : (t : ℕ) → read-list-lts.Need-loop-holds (
-  opens-reads.Asked,
-  opens-reads.Learnt,
-  own-words-reads.Asked,
-  own-words-reads.Learnt,
-  read-item-below t,
-  read-item.Post,
-) (read-list-at t) read-list.Post read-list-Inv-loop read-list-μ-loop
+read-list-loop-holds : (t : ℕ) → read-list-lts.Need-loop-holds (read-list-claims t) (read-list-at t) read-list.Post read-list-Inv-loop read-list-μ-loop
 read-list-loop-holds t c = (read-none _ _ _ _, refl, refl)
 
-read-list-mul-word : (t : ℕ) → read-list-lts.Need-mul-word (
-  opens-reads.Asked,
-  opens-reads.Learnt,
-  own-words-reads.Asked,
-  own-words-reads.Learnt,
-  read-item-below t,
-  read-item.Post,
-) (read-list-at t) read-list.Post read-list-Inv-loop read-list-μ-loop
+read-list-mul-word : (t : ℕ) → read-list-lts.Need-mul-word (read-list-claims t) (read-list-at t) read-list.Post read-list-Inv-loop read-list-μ-loop
 read-list-mul-word t c = search needs
 
-read-list-shared-slice-read-word : (t : ℕ) → read-list-lts.Need-shared-slice-read-word (
-  opens-reads.Asked,
-  opens-reads.Learnt,
-  own-words-reads.Asked,
-  own-words-reads.Learnt,
-  read-item-below t,
-  read-item.Post,
-) (read-list-at t) read-list.Post read-list-Inv-loop read-list-μ-loop
+read-list-shared-slice-read-word : (t : ℕ) → read-list-lts.Need-shared-slice-read-word (read-list-claims t) (read-list-at t) read-list.Post read-list-Inv-loop read-list-μ-loop
 read-list-shared-slice-read-word t c = search needs
 
-read-list-sub-opens : (t : ℕ) → read-list-lts.Need-sub-opens (
-  opens-reads.Asked,
-  opens-reads.Learnt,
-  own-words-reads.Asked,
-  own-words-reads.Learnt,
-  read-item-below t,
-  read-item.Post,
-) (read-list-at t) read-list.Post read-list-Inv-loop read-list-μ-loop
+read-list-sub-opens : (t : ℕ) → read-list-lts.Need-sub-opens (read-list-claims t) (read-list-at t) read-list.Post read-list-Inv-loop read-list-μ-loop
 read-list-sub-opens t c = search needs
 
-read-list-sub-opens-2 : (t : ℕ) → read-list-lts.Need-sub-opens-2 (
-  opens-reads.Asked,
-  opens-reads.Learnt,
-  own-words-reads.Asked,
-  own-words-reads.Learnt,
-  read-item-below t,
-  read-item.Post,
-) (read-list-at t) read-list.Post read-list-Inv-loop read-list-μ-loop
+read-list-sub-opens-2 : (t : ℕ) → read-list-lts.Need-sub-opens-2 (read-list-claims t) (read-list-at t) read-list.Post read-list-Inv-loop read-list-μ-loop
 read-list-sub-opens-2 t c = search needs
 
-read-list-opens-requires : (t : ℕ) → read-list-lts.Need-opens-requires (
-  opens-reads.Asked,
-  opens-reads.Learnt,
-  own-words-reads.Asked,
-  own-words-reads.Learnt,
-  read-item-below t,
-  read-item.Post,
-) (read-list-at t) read-list.Post read-list-Inv-loop read-list-μ-loop
+read-list-opens-requires : (t : ℕ) → read-list-lts.Need-opens-requires (read-list-claims t) (read-list-at t) read-list.Post read-list-Inv-loop read-list-μ-loop
 read-list-opens-requires t c κs = search needs
 
-read-list-own-words-requires : (t : ℕ) → read-list-lts.Need-own-words-requires (
-  opens-reads.Asked,
-  opens-reads.Learnt,
-  own-words-reads.Asked,
-  own-words-reads.Learnt,
-  read-item-below t,
-  read-item.Post,
-) (read-list-at t) read-list.Post read-list-Inv-loop read-list-μ-loop
+read-list-own-words-requires : (t : ℕ) → read-list-lts.Need-own-words-requires (read-list-claims t) (read-list-at t) read-list.Post read-list-Inv-loop read-list-μ-loop
 read-list-own-words-requires t c κs = search needs
 
-read-list-add-read-item : (t : ℕ) → read-list-lts.Need-add-read-item (
-  opens-reads.Asked,
-  opens-reads.Learnt,
-  own-words-reads.Asked,
-  own-words-reads.Learnt,
-  read-item-below t,
-  read-item.Post,
-) (read-list-at t) read-list.Post read-list-Inv-loop read-list-μ-loop
+read-list-add-read-item : (t : ℕ) → read-list-lts.Need-add-read-item (read-list-claims t) (read-list-at t) read-list.Post read-list-Inv-loop read-list-μ-loop
 read-list-add-read-item t c = search needs
 
-read-list-add-read-item-2 : (t : ℕ) → read-list-lts.Need-add-read-item-2 (
-  opens-reads.Asked,
-  opens-reads.Learnt,
-  own-words-reads.Asked,
-  own-words-reads.Learnt,
-  read-item-below t,
-  read-item.Post,
-) (read-list-at t) read-list.Post read-list-Inv-loop read-list-μ-loop
+read-list-add-read-item-2 : (t : ℕ) → read-list-lts.Need-add-read-item-2 (read-list-claims t) (read-list-at t) read-list.Post read-list-Inv-loop read-list-μ-loop
 read-list-add-read-item-2 t c = search needs
 
-read-list-add-read-item-3 : (t : ℕ) → read-list-lts.Need-add-read-item-3 (
-  opens-reads.Asked,
-  opens-reads.Learnt,
-  own-words-reads.Asked,
-  own-words-reads.Learnt,
-  read-item-below t,
-  read-item.Post,
-) (read-list-at t) read-list.Post read-list-Inv-loop read-list-μ-loop
+read-list-add-read-item-3 : (t : ℕ) → read-list-lts.Need-add-read-item-3 (read-list-claims t) (read-list-at t) read-list.Post read-list-Inv-loop read-list-μ-loop
 read-list-add-read-item-3 t c =
     let h = own-follow _ _ _ _ (c .before .opens .ensures) _ (c .own-words .ensures) in
     search needs
 
-read-list-mul-read-item : (t : ℕ) → read-list-lts.Need-mul-read-item (
-  opens-reads.Asked,
-  opens-reads.Learnt,
-  own-words-reads.Asked,
-  own-words-reads.Learnt,
-  read-item-below t,
-  read-item.Post,
-) (read-list-at t) read-list.Post read-list-Inv-loop read-list-μ-loop
+read-list-mul-read-item : (t : ℕ) → read-list-lts.Need-mul-read-item (read-list-claims t) (read-list-at t) read-list.Post read-list-Inv-loop read-list-μ-loop
 read-list-mul-read-item t c = search needs
 
-read-list-sub-read-item : (t : ℕ) → read-list-lts.Need-sub-read-item (
-  opens-reads.Asked,
-  opens-reads.Learnt,
-  own-words-reads.Asked,
-  own-words-reads.Learnt,
-  read-item-below t,
-  read-item.Post,
-) (read-list-at t) read-list.Post read-list-Inv-loop read-list-μ-loop
+read-list-sub-read-item : (t : ℕ) → read-list-lts.Need-sub-read-item (read-list-claims t) (read-list-at t) read-list.Post read-list-Inv-loop read-list-μ-loop
 read-list-sub-read-item t c = search needs
 
-read-list-part-read-item-start : (t : ℕ) → read-list-lts.Need-part-read-item-start (
-  opens-reads.Asked,
-  opens-reads.Learnt,
-  own-words-reads.Asked,
-  own-words-reads.Learnt,
-  read-item-below t,
-  read-item.Post,
-) (read-list-at t) read-list.Post read-list-Inv-loop read-list-μ-loop
+read-list-part-read-item-start : (t : ℕ) → read-list-lts.Need-part-read-item-start (read-list-claims t) (read-list-at t) read-list.Post read-list-Inv-loop read-list-μ-loop
 read-list-part-read-item-start t c = search needs
 
-read-list-part-read-item-end : (t : ℕ) → read-list-lts.Need-part-read-item-end (
-  opens-reads.Asked,
-  opens-reads.Learnt,
-  own-words-reads.Asked,
-  own-words-reads.Learnt,
-  read-item-below t,
-  read-item.Post,
-) (read-list-at t) read-list.Post read-list-Inv-loop read-list-μ-loop
+read-list-part-read-item-end : (t : ℕ) → read-list-lts.Need-part-read-item-end (read-list-claims t) (read-list-at t) read-list.Post read-list-Inv-loop read-list-μ-loop
 read-list-part-read-item-end t c =
     let h = own-follow _ _ _ _ (c .before .opens .ensures) _ (c .own-words .ensures) in
     search needs
 
-read-list-read-item-requires : (t : ℕ) → read-list-lts.Need-read-item-requires (
-  opens-reads.Asked,
-  opens-reads.Learnt,
-  own-words-reads.Asked,
-  own-words-reads.Learnt,
-  read-item-below t,
-  read-item.Post,
-) (read-list-at t) read-list.Post read-list-Inv-loop read-list-μ-loop
+read-list-read-item-requires : (t : ℕ) → read-list-lts.Need-read-item-requires (read-list-claims t) (read-list-at t) read-list.Post read-list-Inv-loop read-list-μ-loop
 read-list-read-item-requires t c κs =
     let k = c .before .before .before .before .before .before .before .before .before .args in
     let v = c .before .before .before .before .before .before .loop .inv in
@@ -266,50 +136,22 @@ read-list-read-item-requires t c κs =
     let q = own-part (c .before .before .own-words .result) (c .before .before .before .before .before .before .loop .i) (k .words .now) (omega (arith, h, c .before .before .before .before .before .loop-test .taken)) in
     (omega (arith, q .1, h, c .before .before .before .before .before .loop-test .taken, c .before .before .before .before .before .before .before .before .before .pre .0), (omega (arith, q .1, h, c .before .before .before .before .before .loop-test .taken, v .0 .put .ends, v .0 .few, v .1, v .2, c .before .before .before .before .before .before .before .before .before .pre .1), level-left _ _ _ _ (c .before .before .before .opens .ensures)))
 
-read-list-add-i : (t : ℕ) → read-list-lts.Need-add-i (
-  opens-reads.Asked,
-  opens-reads.Learnt,
-  own-words-reads.Asked,
-  own-words-reads.Learnt,
-  read-item-below t,
-  read-item.Post,
-) (read-list-at t) read-list.Post read-list-Inv-loop read-list-μ-loop
+read-list-add-i : (t : ℕ) → read-list-lts.Need-add-i (read-list-claims t) (read-list-at t) read-list.Post read-list-Inv-loop read-list-μ-loop
 read-list-add-i t c =
     let h = own-follow _ _ _ _ (c .before .before .before .before .before .before .opens .ensures) _ (c .before .before .before .before .before .own-words .ensures) in
     search needs
 
-read-list-add-i-2 : (t : ℕ) → read-list-lts.Need-add-i-2 (
-  opens-reads.Asked,
-  opens-reads.Learnt,
-  own-words-reads.Asked,
-  own-words-reads.Learnt,
-  read-item-below t,
-  read-item.Post,
-) (read-list-at t) read-list.Post read-list-Inv-loop read-list-μ-loop
+read-list-add-i-2 : (t : ℕ) → read-list-lts.Need-add-i-2 (read-list-claims t) (read-list-at t) read-list.Post read-list-Inv-loop read-list-μ-loop
 read-list-add-i-2 t c =
     let h = own-follow _ _ _ _ (c .before .before .before .before .before .before .opens .ensures) _ (c .before .before .before .before .before .own-words .ensures) in
     search needs
 
-read-list-loop-less : (t : ℕ) → read-list-lts.Need-loop-less (
-  opens-reads.Asked,
-  opens-reads.Learnt,
-  own-words-reads.Asked,
-  own-words-reads.Learnt,
-  read-item-below t,
-  read-item.Post,
-) (read-list-at t) read-list.Post read-list-Inv-loop read-list-μ-loop
+read-list-loop-less : (t : ℕ) → read-list-lts.Need-loop-less (read-list-claims t) (read-list-at t) read-list.Post read-list-Inv-loop read-list-μ-loop
 read-list-loop-less t c =
     let h = own-follow _ _ _ _ (c .before .before .before .before .before .before .opens .ensures) _ (c .before .before .before .before .before .own-words .ensures) in
     search needs
 
-read-list-loop-again : (t : ℕ) → read-list-lts.Need-loop-again (
-  opens-reads.Asked,
-  opens-reads.Learnt,
-  own-words-reads.Asked,
-  own-words-reads.Learnt,
-  read-item-below t,
-  read-item.Post,
-) (read-list-at t) read-list.Post read-list-Inv-loop read-list-μ-loop
+read-list-loop-again : (t : ℕ) → read-list-lts.Need-loop-again (read-list-claims t) (read-list-at t) read-list.Post read-list-Inv-loop read-list-μ-loop
 read-list-loop-again t c =
     let k = c .before .before .before .before .before .before .before .before .before .before .before .before .args in
     let v = c .before .before .before .before .before .before .before .before .before .loop .inv in
@@ -317,36 +159,17 @@ read-list-loop-again t c =
     let q = own-part (c .before .before .before .before .before .own-words .result) (c .before .before .before .before .before .before .before .before .before .loop .i) (k .words .now) (omega (arith, h, c .before .before .before .before .before .before .before .before .loop-test .taken)) in
     (read-more (k .levels) (v .0) (c .before .before .before .before .before .before .before .before .loop-test .taken) _ (c .before .before .before .before .before .before .opens .ensures) _ (c .before .before .before .before .before .own-words .ensures) (rw (q .0) at (c .before .before .read-item .ensures)), c .before .before .read-item .kept .1 .1 .1 .1 .0 ∙ v .1, v .2)
 
-read-list-same-length : (t : ℕ) → read-list-lts.Need-same-length (
-  opens-reads.Asked,
-  opens-reads.Learnt,
-  own-words-reads.Asked,
-  own-words-reads.Learnt,
-  read-item-below t,
-  read-item.Post,
-) (read-list-at t) read-list.Post read-list-Inv-loop read-list-μ-loop
+read-list-same-length : (t : ℕ) → read-list-lts.Need-same-length (read-list-claims t) (read-list-at t) read-list.Post read-list-Inv-loop read-list-μ-loop
 read-list-same-length t c = c .before .loop .inv .1
 
-read-list-returns : (t : ℕ) → read-list-lts.Need-returns (
-  opens-reads.Asked,
-  opens-reads.Learnt,
-  own-words-reads.Asked,
-  own-words-reads.Learnt,
-  read-item-below t,
-  read-item.Post,
-) (read-list-at t) read-list.Post read-list-Inv-loop read-list-μ-loop
+read-list-returns : (t : ℕ) → read-list-lts.Need-returns (read-list-claims t) (read-list-at t) read-list.Post read-list-Inv-loop read-list-μ-loop
 read-list-returns t c =
     let k = c .before .before .before .before .args in
     let v = c .before .loop .inv in
     rw (v .2) at (read-all (k .levels) _ (k .words .now) (k .plain .now) _ _ _ (v .0) (search needs))
 
 pub +read-item+read-list-spec : {M : Type 1} → statement M
-+read-item+read-list-spec = close μ-read-item μ-read-list (λ t. read-item-lts.spec (
-  read-list-below t,
-  read-list.Post,
-)
-    (read-item-at t)
-    read-item.Post
++read-item+read-list-spec = close μ-read-item μ-read-list (λ t. read-item-lts.spec (read-item-claims t) (read-item-at t) read-item.Post
     (read-item-add-next t)
     (read-item-sub-read-list t)
     (read-item-read-list-requires t)
@@ -356,16 +179,7 @@ pub +read-item+read-list-spec : {M : Type 1} → statement M
     (read-item-slice-write-plain t)
     (read-item-same-length-2 t)
     (read-item-returns-2 t))
-    λ t. read-list-lts.spec (
-      opens-reads.Asked,
-      opens-reads.Learnt,
-      own-words-reads.Asked,
-      own-words-reads.Learnt,
-      read-item-below t,
-      read-item.Post,
-    )
-    (read-list-at t)
-    read-list.Post
+    λ t. read-list-lts.spec (read-list-claims t) (read-list-at t) read-list.Post
     read-list-Inv-loop
     read-list-μ-loop
     (read-list-loop-holds t)

@@ -11,7 +11,9 @@ import struct
 import sys
 from decimal import Decimal, InvalidOperation
 
-KINDS = ["zero", "nonnegative", "second-order", "rotated", "semidefinite"]
+# The kinds of a cone word; 5 and 6 are reserved.
+KINDS = {0: "zero", 1: "nonnegative", 2: "second-order", 3: "rotated", 4: "semidefinite", 7: "group"}
+NUMBERS = {name: kind for kind, name in KINDS.items()}
 TOLERANCES = ["eps_acc", "eps_inf", "eps_zero"]
 
 # What a card has room for.
@@ -21,6 +23,7 @@ MOST_WORDS = 63
 # What the solver takes of the rest.
 SOLVER_STEPS = 1_000_000
 SOLVER_SWEEPS = 64
+SOLVER_GROUPS = 8
 
 # What the solver's first words mean.
 FAULTS = {
@@ -134,24 +137,75 @@ def there_are(count, thing):
     return f"there {'is' if count == 1 else 'are'} {counted(count, thing)}"
 
 
-# Cone words: a kind and its number of places, or any 16 bits after 0x.
+# Cone words: a kind and its size, or any 16 bits after 0x. The size of a block is its places; that of a group is
+# the number of following words that belong to it.
 
 
 def cone_word(words):
     if len(words) == 1 and words[0].lower().startswith("0x"):
         return whole(words[0], 0xFFFF)
-    if len(words) != 2 or words[0] not in KINDS:
-        raise Wrong("a word is one of " + ", ".join(KINDS) + " and its places, or 0x and 16 bits")
-    return KINDS.index(words[0]) << 13 | whole(words[1], 0x1FFF)
+    if len(words) != 2 or words[0] not in NUMBERS:
+        *blocks, group = NUMBERS
+        raise Wrong(f"a word is one of {', '.join(blocks)} and its places, {group} and its words, or 0x and 16 bits")
+    return NUMBERS[words[0]] << 13 | whole(words[1], 0x1FFF)
 
 
-def kind_and_places(word):
+def kind_and_size(word):
     return word >> 13, word & 0x1FFF
 
 
 def text_of_cone_word(word):
-    kind, places = kind_and_places(word)
-    return f"{KINDS[kind]} {places}" if kind < len(KINDS) else f"0x{word:04x}"
+    kind, size = kind_and_size(word)
+    return f"{KINDS[kind]} {size}" if kind in KINDS else f"0x{word:04x}"
+
+
+# The cone list is read item by item, and an item that is a group is read as a list.
+
+
+def blocks_of(words):
+    """The blocks in order: of each its kind, its places, and the numbers of the groups around it, outermost first.
+
+    The groups of a list are numbered from 1. Wrong says which word is the first that can't stand, and why.
+    """
+    return blocks_between(words, 0, len(words), [])
+
+
+def blocks_between(words, at, end, groups):
+    """The blocks of the list that stands from one place of the words up to another."""
+    blocks, inner = [], 0
+    while at < end:
+        kind, size = kind_and_size(words[at])
+        at += 1  # past this word; counted from 1 this is its number
+        wrong = wrong_word(kind, size, end - at, len(groups))
+        if wrong:
+            raise Wrong(f"word {at}: {wrong}")
+        if KINDS[kind] == "group":
+            inner += 1
+            blocks += blocks_between(words, at, at + size, [*groups, inner])
+            at += size
+        else:
+            blocks.append((KINDS[kind], size, groups))
+    return blocks
+
+
+def wrong_word(kind, size, after, deep):
+    """What is wrong with a word that stands so many groups deep, with so many words of its list after it; or None."""
+    name = KINDS.get(kind)
+    if name is None:
+        return f"kind {kind} is reserved"
+    if name == "semidefinite" and not is_triangular(size):
+        return f"a semidefinite block of {counted(size, 'place')}, which is not d(d+1)/2 for any order d"
+    if name == "group" and deep == SOLVER_GROUPS:
+        return f"a group {deep + 1} deep; {SOLVER_GROUPS} is the most"
+    if name == "group" and size > after:
+        left = f"where {counted(after, 'word')} {'follows' if after == 1 else 'follow'}"
+        return f"a group of {counted(size, 'word')} runs past the list that it stands in, {left}"
+    return None
+
+
+def is_triangular(places):
+    order = (math.isqrt(8 * places + 1) - 1) // 2
+    return order * (order + 1) // 2 == places
 
 
 # The numbers of each row of A: all, or of a packed one those up to the diagonal.
@@ -401,21 +455,14 @@ def invalid_op(items):
 
 
 def bad_cone(items):
-    for word in items["word"]:
-        kind, places = kind_and_places(word)
-        if kind >= len(KINDS):
-            return f"the cone word 0x{word:04x} has kind {kind}, which is reserved"
-        if KINDS[kind] == "semidefinite" and not is_triangular(places):
-            return f"a semidefinite block has {counted(places, 'place')}, which is not d(d+1)/2 for any order d"
-    places = sum(kind_and_places(word)[1] for word in items["word"])
+    try:
+        blocks = blocks_of(items["word"])
+    except Wrong as wrong:
+        return str(wrong)
+    places = sum(size for _, size, _ in blocks)
     if places != items["m"]:
         return f"the blocks have {counted(places, 'place')} in all, and m is {items['m']}"
     return None
-
-
-def is_triangular(places):
-    order = (math.isqrt(8 * places + 1) - 1) // 2
-    return order * (order + 1) // 2 == places
 
 
 def not_finite(items):

@@ -294,6 +294,24 @@ mod tests {
         assert_eq!(told(&bytes).text(), "Refused 3\n");
     }
 
+    /// A list in groups is answered as its plain blocks are.
+    #[test]
+    fn a_list_in_groups() {
+        let answer = |words: &[u16]| {
+            let mut card = empty();
+            (card.n, card.m, card.words) = (1, 2, words.to_vec());
+            card.c = vec![1.0f64.to_bits()];
+            card.a = vec![(-1.0f64).to_bits(); 2];
+            card.b = vec![(-3.0f64).to_bits(); 2];
+            told(&card.bytes()).text()
+        };
+        let plain = answer(&[0x2001, 0x4001]);
+        assert!(plain.starts_with("Converged "));
+        assert_eq!(answer(&[0xe003, 0xe000, 0x2001, 0x4001]), plain);
+        assert_eq!(answer(&[0x2001, 0xe001, 0x4001]), plain);
+        assert_eq!(answer(&[0x2001, 0xe002, 0x4001]), "Refused 4\n");
+    }
+
     #[test]
     fn the_first_fault_met() {
         let card = empty();

@@ -3,6 +3,7 @@
 use totsu_core::MatType;
 
 use crate::cone_list::{work_len, Block};
+use crate::groups;
 use crate::problem::Problem;
 
 /// Number i of a vector is given[i mod count].
@@ -53,6 +54,30 @@ pub struct Handed {
 pub const LIMIT: usize = 1024;
 pub const MOST_WORDS: usize = 128;
 
+/// What the table goes by where it asks for the cone list.
+#[derive(Clone, Copy)]
+pub struct ListRule {
+    pub most_words: usize,
+    /// The plain words of a list, in order; none if the list is bad.
+    pub plain: fn(&[u16]) -> Option<Vec<u16>>,
+}
+
+/// By requests (vii) and (viii) of document 02.
+pub const LIST_RULE: ListRule = ListRule {
+    most_words: MOST_WORDS,
+    plain: groups::plain,
+};
+
+impl ListRule {
+    /// As it was before request (viii): each word is plain, and one of kind 7 is no block.
+    pub const fn without_groups(most_words: usize) -> ListRule {
+        ListRule {
+            most_words,
+            plain: |words| Some(words.to_vec()),
+        }
+    }
+}
+
 pub const BAD_PARAM: u64 = 1;
 pub const TOO_LARGE: u64 = 2;
 pub const INVALID_OP: u64 = 3;
@@ -86,18 +111,18 @@ pub fn stored(packed: bool, m: usize, n: usize) -> usize {
 impl Handed {
     /// "When the hub is turned away": the first number that applies.
     pub fn refusal(&self) -> Option<u64> {
-        self.refusal_by(MOST_WORDS)
+        self.refusal_by(LIST_RULE)
     }
 
-    /// The same by a table that takes so many cone words.
-    pub fn refusal_by(&self, most_words: usize) -> Option<u64> {
+    /// The same by a table that has another rule of the cone list.
+    pub fn refusal_by(&self, rule: ListRule) -> Option<u64> {
         let table: [(u64, &dyn Fn(&Handed) -> bool); 6] = [
             (BAD_PARAM, &Handed::bad_param),
-            (TOO_LARGE, &|p| p.too_large(most_words)),
+            (TOO_LARGE, &|p| p.too_large(rule)),
             (INVALID_OP, &Handed::invalid_op),
-            (BAD_CONE, &Handed::bad_cone),
+            (BAD_CONE, &|p| p.bad_cone(rule)),
             (NOT_FINITE, &Handed::not_finite),
-            (WORK_SHORTAGE, &Handed::work_shortage),
+            (WORK_SHORTAGE, &|p| p.work_shortage(rule)),
         ];
         table.iter().find(|(_, test)| test(self)).map(|(no, _)| *no)
     }
@@ -111,8 +136,9 @@ impl Handed {
             || !(1..=64).contains(&self.sweep_limit)
     }
 
-    fn too_large(&self, most_words: usize) -> bool {
-        self.n > LIMIT || self.m > LIMIT || self.words.len() > most_words
+    /// Every word of the list counts, a group's too.
+    fn too_large(&self, rule: ListRule) -> bool {
+        self.n > LIMIT || self.m > LIMIT || self.words.len() > rule.most_words
     }
 
     /// All of A.
@@ -132,13 +158,14 @@ impl Handed {
             || self.packed && self.m != self.n
     }
 
-    /// The blocks of the list, if no word is bad.
-    fn blocks(&self) -> Option<Vec<Block>> {
-        self.words.iter().map(|word| Block::read(*word)).collect()
+    /// The plain blocks of the list, in order, if no group and no plain word is bad.
+    fn blocks(&self, rule: ListRule) -> Option<Vec<Block>> {
+        let words = (rule.plain)(&self.words)?;
+        words.iter().map(|word| Block::read(*word)).collect()
     }
 
-    fn bad_cone(&self) -> bool {
-        self.blocks()
+    fn bad_cone(&self, rule: ListRule) -> bool {
+        self.blocks(rule)
             .is_none_or(|blocks| blocks.iter().map(|b| b.size).sum::<usize>() != self.m)
     }
 
@@ -147,12 +174,13 @@ impl Handed {
         !numbers.iter().flatten().all(|x| x.is_finite())
     }
 
-    fn work_shortage(&self) -> bool {
-        self.work < work_places(self.m, self.n) || self.cone_work < self.needed_cone_work()
+    fn work_shortage(&self, rule: ListRule) -> bool {
+        let blocks = self.blocks(rule).expect("a list that is not bad");
+        self.work < work_places(self.m, self.n) || self.cone_work < work_len(&blocks)
     }
 
     pub fn needed_cone_work(&self) -> usize {
-        work_len(&self.blocks().expect("a list without a bad word"))
+        work_len(&self.blocks(LIST_RULE).expect("a list that is not bad"))
     }
 
     /// The same, with −0 for a finite eps_acc or eps_inf below zero.
@@ -170,7 +198,7 @@ impl Handed {
         patterns(self) != patterns(&self.raised())
     }
 
-    /// What the original is run on; an eps_zero of −0 is read as +0.
+    /// What the original is run on: the plain blocks, and an eps_zero of −0 is read as +0.
     pub fn problem(&self) -> Problem {
         assert_eq!(self.refusal(), None);
         Problem {
@@ -182,7 +210,7 @@ impl Handed {
             c: self.c.numbers(),
             a: self.a_numbers(),
             b: self.b.numbers(),
-            blocks: self.blocks().expect("a list without a bad word"),
+            blocks: self.blocks(LIST_RULE).expect("a list that is not bad"),
             max_iter: self.max_iter as usize,
             sweep_limit: self.sweep_limit as usize,
             eps_acc: self.eps_acc,
@@ -317,6 +345,31 @@ mod tests {
         assert_eq!(changed(|p| p.words = vec![0x8003]), Some(6));
     }
 
+    /// The places and the cone work of a list in groups are those of its plain blocks; its words are all counted.
+    #[test]
+    fn groups_of_blocks() {
+        let in_a_group = vec![0xe002, 0x2001, 0x4002];
+        assert_eq!(changed(|p| p.words = in_a_group.clone()), None);
+        assert_eq!(changed(|p| p.words = vec![0xe003, 0x2001, 0x4002]), Some(4));
+        assert_eq!(changed(|p| p.words = vec![0xe001, 0x2002]), Some(4));
+        assert_eq!(changed(|p| p.words = vec![0xe001, 0xa003]), Some(4));
+        assert_eq!(changed(|p| p.words = vec![0xe001, 0xc003]), Some(4));
+        let semidefinite = vec![0xe002, 0xe001, 0x8003];
+        let lent = |cone_work| {
+            let words = semidefinite.clone();
+            changed(|p| (p.words, p.cone_work) = (words.clone(), cone_work))
+        };
+        assert_eq!((lent(6), lent(5)), (None, Some(6)));
+        let with_empty = |count| changed(|p| p.words.resize(count, 0xe000));
+        assert_eq!((with_empty(128), with_empty(129)), (None, Some(2)));
+        let mut p = accepted();
+        p.words = vec![0xe000, 0xe001, 0x2001, 0x4002];
+        let words: Vec<u16> = p.problem().blocks.iter().map(|b| b.word()).collect();
+        assert_eq!(words, [0x2001, 0x4002]);
+        let before = ListRule::without_groups(MOST_WORDS);
+        assert_eq!((p.refusal(), p.refusal_by(before)), (None, Some(4)));
+    }
+
     #[test]
     fn the_first_that_applies() {
         assert_eq!(changed(|p| (p.n, p.sweep_limit) = (1025, 0)), Some(1));
@@ -326,5 +379,9 @@ mod tests {
         let nan = f64::NAN;
         assert_eq!(changed(|p| (p.words[0], p.b.given[0]) = (0, nan)), Some(4));
         assert_eq!(changed(|p| (p.work, p.b.given[0]) = (0, nan)), Some(5));
+        // A group that runs past the list, among words that are too many, beside a wrong length, and before the rest.
+        assert_eq!(changed(|p| p.words.resize(129, 0xffff)), Some(2));
+        assert_eq!(changed(|p| (p.words[0], p.c.length) = (0xffff, 3)), Some(3));
+        assert_eq!(changed(|p| (p.words[0], p.work) = (0xffff, 0)), Some(4));
     }
 }

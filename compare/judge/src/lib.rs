@@ -4,6 +4,8 @@ pub mod card;
 pub mod cone_list;
 pub mod draw;
 pub mod families;
+pub mod group_shapes;
+pub mod groups;
 pub mod handed;
 pub mod lists;
 pub mod original;

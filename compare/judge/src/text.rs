@@ -3,6 +3,7 @@
 use totsu_core::MatType;
 
 use crate::cone_list::Block;
+use crate::groups;
 use crate::problem::{Answer, Ending, Problem};
 use crate::words::word;
 
@@ -46,6 +47,10 @@ impl<'a> Reader<'a> {
     }
 }
 
+fn not_a_word(word: usize) -> String {
+    format!("not a cone word: {word:#06x}")
+}
+
 /// Packed flag, n, m, number of cone words, the words, max_iter, sweep limit, eps_acc, eps_inf,
 /// eps_zero, c, A, b.
 pub fn read(text: &str) -> Result<Problem, String> {
@@ -67,12 +72,16 @@ pub fn read(text: &str) -> Result<Problem, String> {
     } else {
         MatType::General(m, n)
     };
-    let mut blocks = Vec::new();
+    let mut words = Vec::new();
     for _ in 0..from.whole("number of cone words")? {
         let word = from.whole("cone word")?;
-        let block = u16::try_from(word).ok().and_then(Block::read);
-        blocks.push(block.ok_or(format!("not a cone word: {word:#06x}"))?);
+        words.push(u16::try_from(word).map_err(|_| not_a_word(word))?);
     }
+    let plain = groups::plain(&words).ok_or("a group is too deep, or runs past its list")?;
+    let blocks = plain
+        .iter()
+        .map(|word| Block::read(*word).ok_or(not_a_word(usize::from(*word))))
+        .collect::<Result<Vec<Block>, String>>()?;
     if blocks.iter().map(|b| b.size).sum::<usize>() != m {
         return Err("the cone sizes don't sum to m".into());
     }
@@ -118,4 +127,22 @@ pub fn write(problem: &Problem, answer: &Answer) -> String {
         );
     }
     lines.join("\n") + "\n"
+}
+
+#[cfg(test)]
+mod tests {
+    use super::*;
+
+    fn blocks(words: &str) -> Result<Vec<u16>, String> {
+        let text = format!("0 0 2 {words} 1 64 0 0 0 1 1");
+        read(&text).map(|p| p.blocks.iter().map(|b| b.word()).collect())
+    }
+
+    #[test]
+    fn lists_in_groups() {
+        assert_eq!(blocks("1 0x2002"), Ok(vec![0x2002]));
+        assert_eq!(blocks("3 0xe002 0xe000 0x2002"), Ok(vec![0x2002]));
+        assert!(blocks("2 0xe002 0x2002").is_err_and(|why| why.contains("group")));
+        assert!(blocks("2 0xe001 0xa002").is_err_and(|why| why.contains("0xa002")));
+    }
 }

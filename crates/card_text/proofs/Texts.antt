@@ -1,5 +1,5 @@
 -- Laws of a text that grows in a buffer.
-use Prim.Native.Nat.{ℕ, suc, _+_, _-_, _^_, _≤_, _<_}
+use Prim.Native.Nat.{ℕ, _+_, _-_, _^_, _≤_, _<_}
 use native.Mathlib.Nat.{pow-le-pow-right}
 use native.Mathlib.Numerals.{add-one}
 use native.Mathlib.Omega.{arith}
@@ -10,46 +10,25 @@ use lib.Ieee.{Float, nan, binary64, toBits}
 use lib.Dec.{ltb}
 use lib.ListN.{length, take, drop, getD, set}
 use borrow.Author.Tests.{ltb-true, ltb-false}
-use lib.Seq.{take-suc, take-suc-set, take-length, drop-drop, drop-set-lt}
+use lib.Seq.{take-suc, take-length}
 use Rattle.io.specs.Digits.{digits, Fewest}
+use Rattle.rules.proofs.Growing.{kept-on, grown-on, grown-none, grown-one}
 use Rattle.card_text.specs.Text.{newline, space, numberLine, numberLines, Numbered, FirstLine, Ended, Says}
 use Rattle.card_text.specs.Growing.{Grown}
-
--- ---- the places after a text are kept
-
-further : (r s : ℕ) (t u : List ℕ) → r ≤ s → drop r t ≡ drop r u → drop s t ≡ drop s u
-further r s t u h e =
-    let there : r + (s - r) ≡ s = omega arith in
-    sym (ap (λ (k : ℕ). drop k t) there)
-    ∙ sym (drop-drop (s - r) r t)
-    ∙ ap (drop (s - r)) e
-    ∙ drop-drop (s - r) r u
-    ∙ ap (λ (k : ℕ). drop k u) there
-
-kept-on : (r s : ℕ) (t₀ t₁ t₂ : List ℕ) → r ≤ s → drop r t₁ ≡ drop r t₀ → drop s t₂ ≡ drop s t₁ → drop s t₂ ≡ drop s t₀
-kept-on r s t₀ t₁ t₂ h e f = f ∙ further r s t₁ t₀ h e
-
--- a part after a part
-grown-on : (at r s : ℕ) (t₀ t₁ t₂ first second : List ℕ) → r ≤ s → Grown at t₀ first r t₁ → Grown r t₁ second s t₂ → Grown at t₀ (first ++ second) s t₂
-grown-on at r s t₀ t₁ t₂ first second h f g =
-    record { text = g .text ∙ rw (f .text) (append-assoc (take at t₀) first second); kept = kept-on r s t₀ t₁ t₂ h (f .kept) (g .kept) }
 
 -- ---- bytes put one after another
 
 pub put-none : (at : ℕ) (text bytes : List ℕ) → Grown at text (take 0 bytes) (at + 0) text
 put-none at text bytes =
     let e : at + 0 ≡ at = omega arith in
-    record { text = rw e (sym (append-nil (take at text))); kept = refl }
+    rw e (grown-none at text)
 
 pub put-more : (at i v : ℕ) (before text bytes : List ℕ) → Grown at before (take i bytes) (at + i) text → at + i < length text → i < length bytes → v ≡ getD bytes i 0
     → Grown at before (take (i + 1) bytes) (at + (i + 1)) (set text (at + i) v)
 put-more at i v before text bytes e h g is =
-    let next : at + (i + 1) ≡ suc (at + i) = omega arith in
-    let more : take (suc i) bytes ≡ take i bytes ++ v ∷ [] = rw is (take-suc bytes i 0 g) in
-    record {
-      text = rw (next, add-one i, take-suc-set text (at + i) v h, e .text, more) (append-assoc (take at before) (take i bytes) (v ∷ []));
-      kept = kept-on (at + i) (at + (i + 1)) before text (set text (at + i) v) (omega arith) (e .kept) (drop-set-lt (at + (i + 1)) text (at + i) v (omega arith));
-    }
+    let next : at + (i + 1) ≡ at + i + 1 = omega arith in
+    let more : take (i + 1) bytes ≡ take i bytes ++ v ∷ [] = rw (add-one i, is) (take-suc bytes i 0 g) in
+    rw (next, more) (grown-on at (at + i) (at + i + 1) before text (set text (at + i) v) (take i bytes) (v ∷ []) (omega arith) e (grown-one (at + i) v text h))
 
 pub put-all : (at i : ℕ) (before text bytes : List ℕ) → Grown at before (take i bytes) (at + i) text → i ≡ length bytes → Grown at before bytes (at + length bytes) text
 put-all at i before text bytes e h = rw (h, take-length bytes) at e
@@ -100,7 +79,7 @@ number-put x at count middle r before between after ds sixteen as-many spelled e
 
 pub lines-none : (at : ℕ) (text : List ℕ) (numbers : List Float) → Grown at text (numberLines (take 0 numbers)) at text
 unfolding numberLines
-lines-none at text numbers = record { text = sym (append-nil (take at text)); kept = refl }
+lines-none at text numbers = grown-none at text
 
 lines-append : (xs ys : List Float) → numberLines (xs ++ ys) ≡ numberLines xs ++ numberLines ys
 unfolding numberLines

@@ -1,18 +1,12 @@
 -- What the functions that make a text are held to: a text that grows in a buffer, the name of an ending, and the sizes of what is told.
 use Prim.Native.Nat.{ℕ}
-use mathlib.Core.Path.{_≡_}
-use mathlib.Core.List.{List, [], _++_}
-use lib.ListN.{take, drop}
+use mathlib.Core.List.{List, []}
 use Rattle.rules.specs.declared.Ending.{Ending}
 use Rattle.rules.specs.declared.Ending.the-variants.{BadParam, TooLarge, InvalidOp, BadCone, NotFinite, WorkShortage, Converged, ExcessIter, ExcessIterUnscaled, Unbounded, Infeasible, ConeFailure}
 use Rattle.card_answer.specs.declared.Told.{Told}
 use Rattle.card_answer.specs.declared.Told.the-variants.{Fault, Answered}
+pub use Rattle.rules.specs.Growing.{Grown}
 use Rattle.card_text.specs.Text.{converged, excessIter, unbounded, infeasible, coneFailure}
-
--- so many bytes of a buffer are those before a place and then a part, and the others are kept
-pub record Grown (at : ℕ) (before part : List ℕ) (count : ℕ) (after : List ℕ) : Type 0 where
-  pub text : take count after ≡ take at before ++ part
-  pub kept : drop count after ≡ drop count before
 
 -- the name of a run's ending, with a space after it; none of a refusal
 abbrev pub nameOf : Ending → List ℕ

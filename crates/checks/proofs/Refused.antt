@@ -10,7 +10,7 @@ use lib.Ieee.{Float}
 use lib.ListN.{length}
 use borrow.Author.Tests.{ltb-false, le-leb}
 use Rattle.rules.specs.declared.Ending.{Ending}
-use Rattle.rules.specs.declared.Ending.the-variants.{BadParam, TooLarge, InvalidOp, BadCone, NotFinite, WorkShortage}
+use Rattle.rules.specs.declared.Ending.the-variants.{BadParam, TooLarge, InvalidOp}
 use Rattle.rules.specs.declared.SolverParam.{SolverParam}
 use Rattle.rules.specs.declared.Shape.{Shape}
 use Rattle.rules.specs.declared.Storage.{Storage}
@@ -19,19 +19,22 @@ use Rattle.rules.specs.declared.Refusal.{Refusal}
 use Rattle.rules.specs.declared.Refusal.the-variants.{Accepted, Refused}
 use Rattle.rules.specs.Limits.{limit, mostWords}
 use Rattle.rules.specs.Matrices.{triangle}
-use Rattle.rules.specs.Blocks.{isBadCone}
-use Rattle.rules.specs.Refusals.{Fact, _when_, firstOf, asRefusal, badParam, largeSizes, wrongLengths, someNotFinite, shortBuffers, refusal}
+use Rattle.rules.specs.Groups.{plainWords}
+use Rattle.rules.specs.Refusals.{Fact, _when_, firstOf, asRefusal, badParam, largeSizes, wrongLengths, refusal}
 use Rattle.rules.specs.Problem.{Slices, slices, problemOf}
 use Rattle.rules.specs.Split.{splitLengths, splitOf, splitRefusal}
-use Rattle.rules.proofs.Accepted.{neither}
+use Rattle.rules.proofs.Matrices.{neither}
 use Rattle.shape.specs.Fitting.{operatorsFit}
-use Rattle.checks.specs.Parts.{partsTable, partsRefusal}
+use Rattle.checks.specs.Parts.{plainTable, plainRefusal, partsTable, partsRefusal}
 
 pub sizes-within : (m n : ℕ) (words : List ℕ) → largeSizes m n words ≡ false → (m ≤ limit) × (n ≤ limit)
 sizes-within m n words e =
     let f = neither (ltb limit n || ltb limit m) (ltb mostWords (length words)) e in
     let g = neither (ltb limit n) (ltb limit m) (f .0) in
     (ltb-false limit m (g .1), ltb-false limit n (g .0))
+
+pub words-within : (m n : ℕ) (words : List ℕ) → largeSizes m n words ≡ false → length words ≤ mostWords
+words-within m n words e = ltb-false mostWords (length words) (neither (ltb limit n || ltb limit m) (ltb mostWords (length words)) e .1)
 
 -- ---- a row that holds answers, and one that does not leaves it to the others
 
@@ -69,7 +72,7 @@ any-wrong false false b = refl
 
 module _ (par : SolverParam) (m n : ℕ) (words : List ℕ) (work cone : ℕ) where
   abbrev others : List Float → List Float → List Float → List (Fact Ending)
-  others c a b = (BadCone when isBadCone words m) ∷ (NotFinite when someNotFinite c a b) ∷ (WorkShortage when shortBuffers m n words work cone) ∷ []
+  others c a b = plainTable m n c a b (plainWords words) work cone
 
   -- dense A in two slices
   module _ (n1 : ℕ) (c factory lesson b : List Float) where
@@ -122,3 +125,13 @@ module _ (par : SolverParam) (shape : Shape) (c : List Float) (a : Slices) (b : 
   pub answers : {r : Refusal} → Answers (partsTable par shape c a b words work cone) r → r ≡ partsRefusal par shape c a b words work cone
   unfolding partsRefusal
   answers first = first .is
+
+-- the first of the last three that applies, and what that is for all
+module _ (m n : ℕ) (c a b : List Float) (words : List ℕ) (work cone : ℕ) where
+  pub plain-answers : {r : Refusal} → Answers (plainTable m n c a b words work cone) r → r ≡ plainRefusal m n c a b words work cone
+  unfolding plainRefusal
+  plain-answers first = first .is
+
+  pub plain-answered : {r : Refusal} (list : List ℕ) → list ≡ words → r ≡ plainRefusal m n c a b list work cone → Answers (plainTable m n c a b words work cone) r
+  unfolding plainRefusal
+  plain-answered list same e = record { is = rw same at e }

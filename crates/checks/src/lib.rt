@@ -16,7 +16,7 @@ ghost use Rattle.rules.specs.Limits.{limit};
 ghost use Rattle.rules.specs.Refusals.{largeSizes, someNotFinite, shortBuffers, refusal};
 ghost use Rattle.rules.specs.Problem.{problemOf, slices, joined};
 ghost use Rattle.rules.specs.Split.{splitOf, splitRefusal};
-ghost use Rattle.checks.specs.Parts.{partsRefusal};
+ghost use Rattle.checks.specs.Parts.{plainRefusal, partsRefusal};
 
 // The first test that applies.
 pub fn check(
@@ -110,6 +110,31 @@ fn check_parts(
     if !operators_fit(shape, c, a1, a2, b) {
         return Refusal::Refused(Ending::InvalidOp);
     }
+    let mut plain = [0u16; MOST_WORDS];
+    let flattened = groups::flatten(words, &mut plain);
+    let count = groups::count_of(flattened);
+    check_plain(m, n, c, a1, a2, b, &plain[..count], work, cone_work)
+}
+
+// The last three tests, over the plain words of the list.
+fn check_plain(
+    m: usize,
+    n: usize,
+    c: &[f64],
+    a1: &[f64],
+    a2: &[f64],
+    b: &[f64],
+    words: &[u16],
+    work: usize,
+    cone_work: usize,
+) -> Refusal
+    requires { ⌜ (m ≤ limit) × (n ≤ limit) ⌝ }
+    ensures { λ r. ⌜
+        r
+        ≡ plainRefusal m n (now (c .entry)) (joined (slices (now (a1 .entry)) (now (a2 .entry)))) (now (b .entry))
+        (now (words .entry)) work «cone_work»
+        ⌝ }
+{
     let cone_is_bad = words::is_bad_cone(words, m);
     let number_is_not_finite = not_finite(c, a1, a2, b);
     if cone_is_bad {

@@ -1,7 +1,8 @@
 -- What the six tests establish, as facts about numbers: an accepted problem's sizes.
 use Prim.Native.Nat.{ℕ, _≤_}
+use native.Mathlib.Omega.{arith}
 use mathlib.Core.Path.{_≡_, refl}
-use mathlib.Core.Bool.{Bool, true, false, not, _&&_, _||_, true≢false, false≢true}
+use mathlib.Core.Bool.{Bool, true, false, not, _&&_, _||_, false≢true}
 use borrow.Author.Tests.{ltb-false, leb-true, eqb-true, not-false}
 use lib.Dec.{leb, ltb, eqb}
 use lib.ListN.{length}
@@ -9,17 +10,16 @@ use Rattle.rules.specs.declared.SolverParam.{SolverParam}
 use Rattle.rules.specs.Limits.{limit, mostWords, mostSteps, mostSweeps}
 use Rattle.rules.specs.Matrices.{storedLength}
 use Rattle.rules.specs.Blocks.{hasBadWord, totalPlaces, isBadCone}
+use Rattle.rules.specs.Groups.{plainWords}
 use Rattle.rules.specs.Projections.{sweepsFit}
 use Rattle.rules.specs.Product.{coneWork}
 use Rattle.rules.specs.Problem.{Problem, matrix, blocks, workLength}
 use Rattle.rules.specs.declared.Refusal.the-variants.{Accepted}
-use Rattle.rules.specs.Refusals.{isPacked, badTolerance, badParam, tooLarge, invalidOp, badCone, workShortage, refusal, readProblem}
+use Rattle.rules.specs.Refusals.{isPacked, badTolerance, badParam, tooLarge, invalidOp, badCone, workShortage, refusal, readProblem, plainProblem}
+use Rattle.rules.proofs.Matrices.{neither}
+use Rattle.rules.proofs.Groups.{no-longer}
 use Rattle.rules.proofs.Refusals.{none-holds}
 use Rattle.rules.proofs.Lengths.{Fitting}
-
-pub neither : (a b : Bool) → a || b ≡ false → (a ≡ false) × (b ≡ false)
-neither true b e = absurd (true≢false e)
-neither false b e = (refl, e)
 
 both : (a b : Bool) → a && b ≡ true → (a ≡ true) × (b ≡ true)
 both true b e = (refl, e)
@@ -87,21 +87,24 @@ pub record ConeFits (p : Problem) : Type 0 where
   pub no-bad-word : hasBadWord (p .words) ≡ false
   pub sum : totalPlaces (blocks p) ≡ p .m
 
-pub cone-fits : (p : Problem) → badCone p ≡ false → ConeFits p
+-- of the plain list
+pub cone-fits : (p : Problem) → badCone p ≡ false → ConeFits (plainProblem p)
 unfolding badCone isBadCone
 cone-fits p e =
-    let f = neither (hasBadWord (p .words)) (not (eqb (totalPlaces (blocks p)) (p .m))) e in
-    record { no-bad-word = f .0; sum = eqb-true (totalPlaces (blocks p)) (p .m) (not-false (eqb (totalPlaces (blocks p)) (p .m)) (f .1)) }
+    let total = totalPlaces (blocks (plainProblem p)) in
+    let f = neither (hasBadWord (plainWords (p .words))) (not (eqb total (p .m))) e in
+    record { no-bad-word = f .0; sum = eqb-true total (p .m) (not-false (eqb total (p .m)) (f .1)) }
 
 record BuffersFit (p : Problem) (work cone : ℕ) : Type 0 where
   long-work : workLength (p .m) (p .n) ≤ work
   long-cone : coneWork (blocks p) ≤ cone
 
-buffers-fit : (p : Problem) (work cone : ℕ) → workShortage p work cone ≡ false → BuffersFit p work cone
+buffers-fit : (p : Problem) (work cone : ℕ) → workShortage p work cone ≡ false → BuffersFit (plainProblem p) work cone
 unfolding workShortage
 buffers-fit p work cone e =
-    let f = neither (ltb work (workLength (p .m) (p .n))) (ltb cone (coneWork (blocks p))) e in
-    record { long-work = ltb-false work (workLength (p .m) (p .n)) (f .0); long-cone = ltb-false cone (coneWork (blocks p)) (f .1) }
+    let needed = coneWork (blocks (plainProblem p)) in
+    let f = neither (ltb work (workLength (p .m) (p .n))) (ltb cone needed) e in
+    record { long-work = ltb-false work (workLength (p .m) (p .n)) (f .0); long-cone = ltb-false cone needed (f .1) }
 
 -- ---- all of them
 
@@ -118,7 +121,8 @@ pub record AllFits (p : Problem) (work cone : ℕ) : Type 0 where
   pub long-work : workLength (p .m) (p .n) ≤ work
   pub long-cone : coneWork (blocks p) ≤ cone
 
-pub accepted-fits : (p : Problem) (work cone : ℕ) → refusal p work cone ≡ Accepted → AllFits p work cone
+-- of an accepted problem with the plain words of its list
+pub accepted-fits : (p : Problem) (work cone : ℕ) → refusal p work cone ≡ Accepted → AllFits (plainProblem p) work cone
 accepted-fits p work cone e =
     let none = none-holds p work cone e in
     let par = param-fits (p .par) (none 1) in
@@ -132,7 +136,7 @@ accepted-fits p work cone e =
       no-bad-word = blocks .no-bad-word;
       n-within = sizes .n;
       m-within = sizes .m;
-      words-within = sizes .words;
+      words-within = omega (arith, sizes .words, no-longer (p .words));
       steps-within = par .steps;
       some-sweep = par .some-sweep;
       sweeps-within = par .sweeps;

@@ -3,22 +3,25 @@ use Prim.Native.Nat.{ℕ, _+_, _≤_}
 use native.Mathlib.Omega.{arith}
 use mathlib.Core.Path.{_≡_, refl}
 use mathlib.Core.Logic.{_↔_}
-use mathlib.Core.Bool.{true}
+use mathlib.Core.Bool.{true, false}
 use mathlib.Core.List.{List}
 use lib.Ieee.{Float}
 use lib.ListN.{length}
 use Rattle.rules.specs.declared.Answer.{Answer}
 use Rattle.rules.specs.Product.{Failure}
-use Rattle.rules.specs.Limits.{limit}
+use Rattle.rules.specs.Limits.{limit, mostDeep}
+use Rattle.rules.specs.Blocks.{readWord, isBadCone}
+use Rattle.rules.specs.Groups.{isGroup, plainWords, Says, Unreadable, Reading, hasGroup, withoutGroups}
 use Rattle.rules.specs.Matrices.{triangle}
-use Rattle.rules.specs.Problem.{Problem, workLength}
+use Rattle.rules.specs.Problem.{Problem, withWords, workLength}
 use Rattle.rules.specs.Step.{State}
 use Rattle.rules.specs.declared.Norms.{Norms}
 use Rattle.rules.specs.declared.Criteria.{Criteria}
 use Rattle.rules.specs.Run.{pieceFrom, takenUp, Ended, run, leftBy}
 use Rattle.rules.specs.declared.Refusal.the-variants.{Accepted}
-use Rattle.rules.specs.Refusals.{Fact, facts, refusal, readProblem, numberOf, solved, SolveOutcome}
-use Rattle.rules.specs.Split.{SplitProblem, slicesFit, joinedProblem, splitFacts, splitRefusal, splitSolved, SplitOutcome}
+use Rattle.rules.specs.declared.Word.the-variants.{Bad}
+use Rattle.rules.specs.Refusals.{Fact, facts, tooLarge, badCone, refusal, readProblem, plainProblem, numberOf, solved, SolveOutcome}
+use Rattle.rules.specs.Split.{SplitProblem, slicesFit, joinedProblem, plainSplit, splitFacts, splitRefusal, splitSolved, SplitOutcome}
 use Rattle.rules.specs.Demands.{NoneHolds, NumberedFrom, GivenExactly, TurnedAwayExactly, SplitTurnedAwayExactly, AsJoinedOrInvalid, GoesByTheRules, EndsFirst, GoesOnExactly, ConvergedExactly, RotationsBounded, AnsweredByTheRules, OldContentsChangeNothing, SplitOldContentsChangeNothing, PlacesBeyondKept, SplitPlacesBeyondKept}
 use Rattle.rules.proofs.Refusals as Refusals
 use Rattle.rules.proofs.Run as Run
@@ -29,6 +32,9 @@ use Rattle.rules.proofs.Answered as Answered
 use Rattle.rules.proofs.SplitRuns as SplitRuns
 use Rattle.rules.proofs.Triangle.{triangle-grows}
 use Rattle.rules.proofs.Enough as Enough
+use Rattle.rules.proofs.Groups as Groups
+use Rattle.rules.proofs.Unreadable as Unreadable
+use Rattle.rules.proofs.GroupedRuns as GroupedRuns
 
 -- ---- demand 1
 
@@ -142,3 +148,51 @@ never-short-of-work p work cone hw hc = Enough.never-short-at-the-limit 44 (omeg
 
 pub split-never-short-of-work : (p : SplitProblem) (work cone : List Float) → 16390 ≤ length work → 1980 ≤ length cone → numberOf (splitSolved p work cone .answer .ending) ≡ 6 → ⊥
 split-never-short-of-work p work cone hw hc = Enough.split-never-short-at-the-limit 44 (omega arith) p work cone hw hc
+
+-- ---- request (viii): cones in groups
+
+-- What the reader makes of a list is what the request says of it: "A list is read item by item, and an item that is a group is read as a list. At most 8 groups
+-- deep"; where no group is left unread, and only there.
+pub read-exactly : (words said : List ℕ) → Says mostDeep words said ↔ ((plainWords words ≡ said) × (hasGroup said ≡ false))
+read-exactly = Groups.read-exactly
+
+-- every list says something or can't be read, and none does both
+pub reading : (words : List ℕ) → Reading mostDeep words
+reading = Unreadable.reading
+
+pub unreadable-says-nothing : (levels : ℕ) (words : List ℕ) → Unreadable levels words → (said : List ℕ) → Says levels words said → ⊥
+unreadable-says-nothing = Unreadable.unreadable-says-nothing
+
+-- what it says are its own words but for the groups, in order: none is lost, and none comes twice
+pub says-without-groups : (levels : ℕ) (words said : List ℕ) → Says levels words said → said ≡ withoutGroups words
+says-without-groups = Unreadable.says-without-groups
+
+-- a list without groups is its own plain list
+pub plain-is-itself : (words : List ℕ) → hasGroup words ≡ false → plainWords words ≡ words
+plain-is-itself = Groups.plain-is-itself
+
+-- "deeper, or running past the enclosing list, is BadCone"
+pub unreadable-is-bad-cone : (p : Problem) → Unreadable mostDeep (p .words) → badCone p ≡ true
+unreadable-is-bad-cone = GroupedRuns.unreadable-is-bad-cone
+
+-- .. and any other list exactly when its plain words are
+pub bad-cone-as-said : (p : Problem) (said : List ℕ) → Says mostDeep (p .words) said → badCone p ≡ isBadCone said (p .m)
+bad-cone-as-said = GroupedRuns.bad-cone-as-said
+
+-- "Prove that an accepted grouped list runs as its plain blocks in order": answer, k, q, the number of a block that failed and every place of both buffers
+pub runs-as-its-plain-blocks : (p : Problem) (work cone : List Float) → refusal p (length work) (length cone) ≡ Accepted → solved p work cone ≡ solved (plainProblem p) work cone
+runs-as-its-plain-blocks = GroupedRuns.runs-as-its-plain-blocks
+
+pub split-runs-as-its-plain-blocks : (p : SplitProblem) (work cone : List Float) → splitRefusal p (length work) (length cone) ≡ Accepted → splitSolved p work cone ≡ splitSolved (plainSplit p) work cone
+split-runs-as-its-plain-blocks = GroupedRuns.split-runs-as-its-plain-blocks
+
+-- refusals too, where the list can be read and the problem is not TooLarge, by which group words count
+pub runs-as-said : (p : Problem) (said : List ℕ) → Says mostDeep (p .words) said → tooLarge p ≡ false → (work cone : List Float) → solved p work cone ≡ solved (withWords said p) work cone
+runs-as-said = GroupedRuns.runs-as-said
+
+-- What is below the entries takes plain lists, and in these a group counts as a word of a reserved kind: no block, and the list a BadCone for any number of places.
+pub group-is-no-block : (word : ℕ) → isGroup word ≡ true → readWord word ≡ Bad
+group-is-no-block = Groups.group-is-no-block
+
+pub group-is-bad-cone : (words : List ℕ) (m : ℕ) → hasGroup words ≡ true → isBadCone words m ≡ true
+group-is-bad-cone = Groups.group-is-bad-cone

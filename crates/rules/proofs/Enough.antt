@@ -19,7 +19,7 @@ use Rattle.rules.specs.Projections.{blockWork}
 use Rattle.rules.specs.Product.{coneWork}
 use Rattle.rules.specs.Problem.{Problem, blocks, workLength}
 use Rattle.rules.specs.Run.{Left}
-use Rattle.rules.specs.Refusals.{badCone, workShortage, numberOf, solved}
+use Rattle.rules.specs.Refusals.{badCone, workShortage, numberOf, solved, plainProblem}
 use Rattle.rules.specs.Split.{SplitProblem, joinedProblem, splitSolved}
 use Rattle.rules.specs.Demands.{AsJoinedOrInvalid}
 use Rattle.rules.proofs.Triangle.{triangle-grows}
@@ -55,9 +55,10 @@ module _ (size order : ℕ) (largest : size < triangle (order + 1)) where
   enough : (p : Problem) (work cone : ℕ) → p .n ≤ size → p .m ≤ size → workLength size size ≤ work → order + order * order ≤ cone → badCone p ≡ false → workShortage p work cone ≡ false
   unfolding workShortage
   enough p work cone hn hm hw hc e =
-      let total : totalPlaces (blocks p) ≤ size = rw (cone-fits p e .sum) hm in
-      let few : coneWork (blocks p) ≤ cone = omega (arith, cone-work (blocks p) total) in
-      rw (le-ltb work (workLength (p .m) (p .n)) (omega arith), le-ltb cone (coneWork (blocks p)) few)
+      let plain = blocks (plainProblem p) in
+      let total : totalPlaces plain ≤ size = rw (cone-fits p e .sum) hm in
+      let few : coneWork plain ≤ cone = omega (arith, cone-work plain total) in
+      rw (le-ltb work (workLength (p .m) (p .n)) (omega arith), le-ltb cone (coneWork plain) few)
 
   -- a problem of no more rows and columns than the size
   pub never-short : (p : Problem) (work cone : List Float) → p .n ≤ size → p .m ≤ size → workLength size size ≤ length work → order + order * order ≤ length cone → numberOf (solved p work cone .answer .ending) ≡ 6 → ⊥

@@ -18,6 +18,9 @@ pub mod Accepted
 pub mod OldContents
 pub mod Answered
 pub mod SplitRuns
+pub mod Groups
+pub mod Unreadable
+pub mod GroupedRuns
 pub mod Enough
 pub mod Demands
 pub mod Outcome
@@ -29,4 +32,5 @@ pub mod Projections
 pub mod ConeProduct
 pub mod Kernels
 pub mod Parts
+pub mod Growing
 pub mod WorkedByHand

@@ -3,7 +3,7 @@ use Prim.Native.Nat.{ℕ, zero, suc, _+_, _-_, _*_, _<_, _≤_}
 use native.Mathlib.Nat.{mul-comm, suc-mul, mul-le-mul, mul-le-mul-left, mul-le-mul-right, mul-zero, mul-suc}
 use native.Mathlib.Omega.{arith}
 use mathlib.Core.Path.{_≡_, refl, sym, ap, _∙_}
-use mathlib.Core.Bool.{Bool, true, false, _&&_, false≢true}
+use mathlib.Core.Bool.{Bool, true, false, _&&_, false≢true, _||_, true≢false}
 use mathlib.Core.List.{List}
 use borrow.Author.Tests.{leb-true, eqb-true, le-leb, eq-eqb}
 use lib.Dec.{leb, eqb}
@@ -105,6 +105,10 @@ transformed-same alpha e f x beta y h =
 pub both-true : (a b : Bool) → a && b ≡ true → (a ≡ true) × (b ≡ true)
 both-true true b e = (refl, e)
 both-true false b e = absurd (false≢true e)
+
+pub neither : (a b : Bool) → a || b ≡ false → (a ≡ false) × (b ≡ false)
+neither true b e = absurd (true≢false e)
+neither false b e = (refl, e)
 
 pub stored-if-fits : {t : MatType} {mat : List Float} → storedFits t mat ≡ true → Stored t mat
 stored-if-fits {t} {mat} e =

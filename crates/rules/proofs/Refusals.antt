@@ -19,8 +19,7 @@ use Rattle.rules.specs.declared.Criteria.the-variants.{Conv, Inf}
 use Rattle.rules.specs.declared.Verdict.the-variants.{Ends, GoesOn}
 use Rattle.rules.specs.Run.{verdict, allowance, run, Left, leftBy}
 use Rattle.rules.specs.declared.Refusal.the-variants.{Accepted}
-use Rattle.rules.specs.Blocks.{isBadCone}
-use Rattle.rules.specs.Refusals.{Fact, _when_, First, none-applies, applies, firstOf, facts, asRefusal, refusal, numberOf, badCone, shortBuffers, workShortage, readProblem, turnedAway, leftAfter, solved, SolveOutcome}
+use Rattle.rules.specs.Refusals.{Fact, _when_, First, none-applies, applies, firstOf, facts, asRefusal, refusal, numberOf, readProblem, turnedAway, leftAfter, solved, SolveOutcome}
 use Rattle.rules.specs.Demands.{holdsAt, NoneHolds, FirstToHold, NumberedFrom, numberGiven, GivenExactly, TurnedAwayBy, TurnedAwayExactly, step}
 use Rattle.rules.proofs.Columns.{by-less}
 use Rattle.rules.proofs.Run.{ends-first}
@@ -136,15 +135,6 @@ none-holds p work cone e = table-given p work cone .accepts .0 (accepted-is (fir
 pub accepted-if-none-holds : (p : Problem) (work cone : ℕ) → NoneHolds (facts p work cone) → refusal p work cone ≡ Accepted
 accepted-if-none-holds p work cone n = refusal-is p work cone ∙ ap asRefusal (table-given p work cone .accepts .1 n)
 
--- as the problem is read now nothing of it moves but eps_zero, so that the two facts of the read problem are those of the problem handed over
-pub bad-cone-as-handed : (p : Problem) → badCone p ≡ isBadCone (p .words) (p .m)
-unfolding badCone
-bad-cone-as-handed p = refl
-
-pub shortage-as-handed : (p : Problem) (work cone : ℕ) → workShortage p work cone ≡ shortBuffers (p .m) (p .n) (p .words) work cone
-unfolding workShortage
-shortage-as-handed p work cone = refl
-
 -- ---- an accepted run is no refusal
 
 -- what holds of each ending that a step can say holds of the one that it says
@@ -220,7 +210,7 @@ module _ (rows : List (Fact Ending)) (ran : Left) (work cone : List Float) where
       }
 
 module _ (p : Problem) (work cone : List Float) where
-  solved-is : solved p work cone ≡ leftAfter (asRefusal (firstOf (facts p (length work) (length cone)))) (leftBy (readProblem p) work cone (run (readProblem p))) work cone
+  pub solved-is : solved p work cone ≡ leftAfter (asRefusal (firstOf (facts p (length work) (length cone)))) (leftBy (readProblem p) work cone (run (readProblem p))) work cone
   unfolding solved
   solved-is = rw (refusal-is p (length work) (length cone))
 

@@ -16,8 +16,7 @@ use Rattle.rules.specs.Run.{run, leftBy}
 use Rattle.rules.specs.Refusals.{firstOf, asRefusal, badParam, tooLarge, invalidOp, refusal, facts, readProblem, numberOf, turnedAway, leftAfter, solved, SolveOutcome}
 use Rattle.rules.specs.Split.{SplitProblem, slicesFit, joinedProblem, invalidSplit, splitFacts, splitRefusal, splitSolved, SplitOutcome}
 use Rattle.rules.specs.Demands.{NoneHolds, NumberedFrom, SplitTurnedAwayExactly, AsJoinedOrInvalid, AnsweredByTheRules, SplitOldContentsChangeNothing, SplitPlacesBeyondKept}
-use Rattle.rules.proofs.Matrices.{both-true}
-use Rattle.rules.proofs.Accepted.{neither}
+use Rattle.rules.proofs.Matrices.{both-true, neither}
 use Rattle.rules.proofs.Slices.{lengths-join}
 use Rattle.rules.proofs.Refusals.{given-exactly, accepted-is, turned-away-by, ran-unnumbered}
 use Rattle.rules.proofs.Answered as Answered

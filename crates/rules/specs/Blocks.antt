@@ -1,4 +1,5 @@
--- Document 01, "What the hub hands over": the cone list. One reading makes blocks of its words; everything else is over the blocks.
+-- Document 01, "What the hub hands over": the cone list. One reading makes blocks of its words; everything else is over the blocks. Lists are plain here: what
+-- a list with groups says is a plain list (Groups.antt).
 use Prim.Native.Nat.{ℕ, zero, suc, _+_, _/_, _%_}
 use mathlib.Core.Bool.{Bool, true, false, not, cond, _||_}
 use mathlib.Core.List.{List, [], _∷_}
@@ -26,7 +27,8 @@ unfoldable pub orderOf : ℕ → ℕ
 unfolding orderUpTo
 orderOf size = orderUpTo 127 size
 
--- "Kinds: 0 zero, 1 nonnegative, 2 second-order, 3 rotated, 4 semidefinite (size d(d+1)/2). Kinds 5 to 7 are reserved."
+-- "Kinds: 0 zero, 1 nonnegative, 2 second-order, 3 rotated, 4 semidefinite (size d(d+1)/2). Kinds 5 to 7 are reserved."; by request (viii) of document 02 "Kinds 5
+-- and 6 stay refused", and kind 7 is a group, which is no block of a plain list
 unfoldable pub readKind : ℕ → ℕ → Word
 unfolding orderOf
 readKind zero size = Block (Zero size)

@@ -2,12 +2,14 @@
 pub mod Limits
 pub mod Parameters
 pub mod Outcome
+pub mod Growing
 pub mod Helpers
 pub mod Root
 pub mod Arithmetic
 pub mod Vectors
 pub mod Matrices
 pub mod Blocks
+pub mod Groups
 pub mod Jacobi
 pub mod Projections
 pub mod Product

@@ -17,6 +17,10 @@ mostSteps = 1000000
 abbrev pub mostSweeps : ℕ
 mostSweeps = 64
 
+-- By request (viii) of document 02: "At most 8 groups deep"
+abbrev pub mostDeep : ℕ
+mostDeep = 8
+
 -- No limit of document 01, and beyond every machine: so few places that the rotations of a list of blocks, at most mostSweeps a place, fit 64 bits.
 abbrev pub mostPlaces : ℕ
 mostPlaces = (2 ^ 64 - 1) / mostSweeps

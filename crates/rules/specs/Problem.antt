@@ -30,6 +30,10 @@ abbrev pub problemOf : ℕ → ℕ → Storage → List Float → List Float →
 problemOf m n storage c a b words par =
     record { m = m; n = n; storage = storage; c = c; a = a; b = b; words = words; par = par }
 
+-- the same problem with these cone words
+abbrev pub withWords : List ℕ → Problem → Problem
+withWords words p = problemOf (p .m) (p .n) (p .storage) (p .c) (p .a) (p .b) words (p .par)
+
 -- A as it is lent: in two slices, of which one may be empty
 pub record Slices : Type 0 where
   pub first : List Float

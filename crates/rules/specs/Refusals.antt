@@ -19,17 +19,23 @@ use Rattle.rules.specs.Limits.{limit, mostWords, mostSteps}
 use Rattle.rules.specs.Arithmetic.{+0}
 use Rattle.rules.specs.Matrices.{storedLength}
 use Rattle.rules.specs.Blocks.{isBadCone, blocksOf}
+use Rattle.rules.specs.Groups.{plainWords}
 use Rattle.rules.specs.Projections.{sweepsFit}
 use Rattle.rules.specs.Product.{coneWork}
-use Rattle.rules.specs.Problem.{Problem, matrixOf, workLength, asRead}
+use Rattle.rules.specs.Problem.{Problem, withWords, matrixOf, workLength, asRead}
 use Rattle.rules.specs.Outcome.{OnPaper, turned-away, ends, onPaper}
 use Rattle.rules.specs.Run.{Left, run, leftBy}
 
--- the problem as the run reads it
+-- the problem as the run reads it; by request (viii) of document 02 "an accepted grouped list runs as its plain blocks in order, so demands 2 and 3 read the
+-- flattened list"
 unfoldable pub readProblem : Problem → Problem
-unfolding asRead
+unfolding asRead plainWords
 readProblem p =
-    record { m = p .m; n = p .n; storage = p .storage; c = p .c; a = p .a; b = p .b; words = p .words; par = asRead (p .par) }
+    record { m = p .m; n = p .n; storage = p .storage; c = p .c; a = p .a; b = p .b; words = plainWords (p .words); par = asRead (p .par) }
+
+-- the problem with the plain words of its list
+abbrev pub plainProblem : Problem → Problem
+plainProblem p = withWords (plainWords (p .words)) p
 
 abbrev pub isFinite : Float → Bool
 isFinite nan = false
@@ -53,7 +59,8 @@ unfoldable pub badParam : SolverParam → Bool
 unfolding lt
 badParam par = badTolerance par || ltb mostSteps (par .«max_iter») || not (sweepsFit par)
 
--- 2: "n or m above 256, or more than 32 cone words"; by request (vii) of document 02 "TooLarge moves to 1,025 and 129"
+-- 2: "n or m above 256, or more than 32 cone words"; by request (vii) of document 02 "TooLarge moves to 1,025 and 129", and by
+-- (viii) "Group words count toward the list's limit"
 abbrev pub largeSizes : ℕ → ℕ → List ℕ → Bool
 largeSizes m n words = ltb limit n || ltb limit m || ltb mostWords (length words)
 
@@ -73,7 +80,8 @@ wrongLengths m n storage c a b =
 unfoldable pub invalidOp : Problem → Bool
 invalidOp p = wrongLengths (p .m) (p .n) (p .storage) (p .c) (p .a) (p .b)
 
--- 4: "a reserved kind, a kind 4 size not triangular, or sizes not summing to m": of the list as it is read
+-- 4: "a reserved kind, a kind 4 size not triangular, or sizes not summing to m": of the plain list that is read, in which a group that is too deep or runs past
+-- its list counts as a word of a reserved kind
 unfoldable pub badCone : Problem → Bool
 unfolding isBadCone readProblem
 badCone p = isBadCone (readProblem p .words) (readProblem p .m)

@@ -14,6 +14,7 @@ use Rattle.rules.specs.declared.SolverParam.{SolverParam}
 use Rattle.rules.specs.declared.Storage.the-variants.{Dense}
 use Rattle.rules.specs.declared.Refusal.{Refusal}
 use Rattle.rules.specs.Limits.{limit}
+use Rattle.rules.specs.Groups.{plainWords}
 use Rattle.rules.specs.Problem.{Problem, problemOf}
 use Rattle.rules.specs.Step.{part}
 use Rattle.rules.specs.Run.{Left, run, leftBy}
@@ -83,6 +84,10 @@ slicesFit p = splitLengths (p .m) (p .n) (p .n1) (p .factory) (p .lesson)
 -- the problem over the joined matrix
 abbrev pub joinedProblem : SplitProblem → Problem
 joinedProblem p = problemOf (p .m) (p .n) Dense (p .c) (p .factory ++ p .lesson) (p .b) (p .words) (p .par)
+
+-- the same with the plain words of its list
+abbrev pub plainSplit : SplitProblem → SplitProblem
+plainSplit p = splitOf (p .m) (p .n) (p .n1) (p .c) (p .factory) (p .lesson) (p .b) (plainWords (p .words)) (p .par)
 
 -- ---- when it is turned away
 

@@ -1,5 +1,5 @@
--- Document 01, "Worked by hand": the cases marked P, as rows of one table, with the cone word that 01 names and requests (ii), (iv) and (vii) of document 02. `proofs/WorkedByHand.antt` proves the one claim that every row holds.
-use Prim.Native.Nat.{ℕ}
+-- Document 01, "Worked by hand": the cases marked P, as rows of one table, with the cone word that 01 names and requests (ii), (iv), (vii) and (viii) of document 02. `proofs/WorkedByHand.antt` proves the one claim that every row holds.
+use Prim.Native.Nat.{ℕ, zero, suc, _+_}
 use mathlib.Core.Path.{_≡_}
 use mathlib.Core.List.{List, [], _∷_}
 use lib.IntN.{pos, negsuc}
@@ -14,12 +14,13 @@ use Rattle.rules.specs.declared.Cone.the-variants.{SOC}
 use Rattle.rules.specs.declared.Word.the-variants.{Block}
 use Rattle.rules.specs.declared.Answer.{Answer}
 use Rattle.rules.specs.declared.Ending.{Ending}
-use Rattle.rules.specs.declared.Ending.the-variants.{Converged, ExcessIterUnscaled, BadParam, TooLarge, WorkShortage}
+use Rattle.rules.specs.declared.Ending.the-variants.{Converged, ExcessIterUnscaled, BadParam, TooLarge, BadCone, WorkShortage}
 use Rattle.rules.specs.Arithmetic.{+0}
 use Rattle.rules.specs.Helpers.{larger, smaller}
 use Rattle.rules.specs.Matrices.{opped, transOpped, absaddedRows, absaddedCols}
 use Rattle.rules.specs.Projections.{projSOC}
 use Rattle.rules.specs.Blocks.{readWord}
+use Rattle.rules.specs.Groups.{plainWords}
 use Rattle.rules.specs.Parameters.{oneOver, paramOf, withEpsZero, defaults}
 use Rattle.rules.specs.Outcome.{turned-away, onPaper}
 use Rattle.rules.specs.Problem.{Problem}
@@ -72,8 +73,11 @@ abbrev triple : Float → Float → Float → List Float
 triple a b c = a ∷ b ∷ c ∷ []
 
 -- n = m = 0
+abbrev listed : List ℕ → SolverParam → Problem
+listed words par = record { m = 0; n = 0; storage = Dense; c = []; a = []; b = []; words = words; par = par }
+
 abbrev empty : SolverParam → Problem
-empty par = record { m = 0; n = 0; storage = Dense; c = []; a = []; b = []; words = []; par = par }
+empty par = listed [] par
 
 abbrev byDefault : Problem
 byDefault = empty (defaults 1_000_000 64)
@@ -93,6 +97,18 @@ nextBelow0 = f64 0x8000_0000_0000_0001
 -- so many columns, rows and cone words, and nothing lent for c, A and b: 2 is asked before 3
 abbrev sized : ℕ → ℕ → ℕ → Problem
 sized n m words = record { m = m; n = n; storage = Dense; c = []; a = []; b = []; words = replicate words 0; par = defaults 1_000_000 64 }
+
+-- a group of so many following words, and n = m = 0 with such a list
+abbrev groupOf : ℕ → ℕ
+groupOf following = 0xe000 + following
+
+abbrev grouped : List ℕ → Problem
+grouped words = listed words (defaults 1_000_000 64)
+
+-- so many groups, each in the one before it, the last with no word
+abbrev nested : ℕ → List ℕ
+nested zero = []
+nested (suc k) = groupOf k ∷ nested k
 
 -- places that held 5 before
 abbrev held : ℕ → List Float
@@ -137,4 +153,13 @@ table =
     ∷ (solved (sized 1025 0 0) (held 6) [] comes-to turnedAway TooLarge (held 6) [])
     ∷ (solved (sized 0 1025 0) (held 6) [] comes-to turnedAway TooLarge (held 6) [])
     ∷ (solved (sized 0 0 129) (held 6) [] comes-to turnedAway TooLarge (held 6) [])
+    -- no cases of the table either, but request (viii): a group with another in it, and a block after both; eight deep, and nine; a group that ends with its enclosing list, and one
+    -- that runs past it though a word of the outer list remains; group words counted
+    ∷ (plainWords (groupOf 3 ∷ 0x2001 ∷ groupOf 1 ∷ 0x0002 ∷ 0x4003 ∷ []) comes-to (0x2001 ∷ 0x0002 ∷ 0x4003 ∷ []))
+    ∷ (solved (grouped (nested 8)) (held 6) [] .answer comes-to answered (Converged +0 +0 +0) 1 0)
+    ∷ (solved (grouped (nested 9)) (held 6) [] comes-to turnedAway BadCone (held 6) [])
+    ∷ (solved (grouped (groupOf 2 ∷ groupOf 1 ∷ 0 ∷ [])) (held 6) [] .answer comes-to answered (Converged +0 +0 +0) 1 0)
+    ∷ (solved (grouped (groupOf 1 ∷ groupOf 1 ∷ 0 ∷ [])) (held 6) [] comes-to turnedAway BadCone (held 6) [])
+    ∷ (solved (grouped (replicate 128 (groupOf 0))) (held 6) [] .answer comes-to answered (Converged +0 +0 +0) 1 0)
+    ∷ (solved (grouped (replicate 129 (groupOf 0))) (held 6) [] comes-to turnedAway TooLarge (held 6) [])
     ∷ []

@@ -27,7 +27,7 @@ pub enum Cone {
     PSD(usize),
 }
 
-// What a cone word says.
+// What a word of a plain cone list says.
 pub enum Word {
     Block(Cone),
     Bad,
@@ -55,6 +55,9 @@ pub struct Shape {
 pub const MOST_STEPS: u64 = 1000000;
 
 pub const MOST_WORDS: usize = 128;
+
+// The most groups of cone words that may stand in one another.
+pub const MOST_DEEP: usize = 8;
 
 // The most places of a list of blocks: their rotations, at most MOST_SWEEPS a place, then fit 64 bits.
 pub const MOST_PLACES: usize = (18446744073709551615 / MOST_SWEEPS) as usize;

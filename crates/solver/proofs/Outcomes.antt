@@ -16,9 +16,10 @@ use Rattle.rules.specs.declared.Storage.{Storage}
 use Rattle.rules.specs.declared.Storage.the-variants.{Dense, Packed}
 use Rattle.rules.specs.declared.SolverParam.{SolverParam}
 use Rattle.rules.specs.Arithmetic.{+0}
-use Rattle.rules.specs.Limits.{limit}
+use Rattle.rules.specs.Limits.{limit, mostWords}
 use Rattle.rules.specs.Matrices.{triangle, storedLength}
 use Rattle.rules.specs.Blocks.{blocksOf}
+use Rattle.rules.specs.Groups.{plainWords}
 use Rattle.rules.specs.Projections.{sweepsFit}
 use Rattle.rules.specs.Product.{coneWork}
 use Rattle.rules.specs.Problem.{Problem, Slices, slices, asRead, blocks, matrixOf, lengthX, lengthY, problemOf, problemIn}
@@ -28,12 +29,13 @@ use Rattle.rules.specs.declared.Refusal.the-variants.{Accepted, Refused}
 use Rattle.rules.specs.Refusals.{refusal, isPacked, readProblem, turnedAway, solved, SolveOutcome}
 use Rattle.rules.specs.Split.{SplitProblem, splitOf, slicesFit, joinedProblem, splitRefusal, splitSolved, SplitOutcome}
 use Rattle.rules.proofs.SplitRuns.{same-refusal, split-runs-as-joined, slices-fit-if-accepted}
-use Rattle.rules.proofs.Accepted.{AllFits, accepted-fits}
+use Rattle.rules.proofs.Refusals.{none-holds}
+use Rattle.rules.proofs.Accepted.{AllFits, sizes-fit, accepted-fits}
 use Rattle.rules.proofs.OldContents.{solved-accepted}
 use Rattle.rules.proofs.Parts.{put, from-start, zeros-part}
 use Rattle.shape.specs.Fitting.{partsIn, partsFit}
 use Rattle.shape.proofs.Fitting.{sized-of}
-use Rattle.solver.specs.Solve.{turnedAwayBy, Taken, LeftAs, Lent, AtZero, RanIn}
+use Rattle.solver.specs.Solve.{turnedAwayBy, Taken, Handed, LeftAs, Lent, AtZero, RanIn}
 
 solved-refused : (p : Problem) (work cone : List Float) (e : Ending) → refusal p (length work) (length cone) ≡ Refused e → solved p work cone ≡ turnedAway e work cone
 unfolding solved
@@ -55,9 +57,12 @@ module _ (par : SolverParam) where
   unfolding asRead
   sweeps-read = refl
 
-read-is : (m n : ℕ) (storage : Storage) (c a b : List Float) (words : List ℕ) (par : SolverParam) → readProblem (problemOf m n storage c a b words par) ≡ problemOf m n storage c a b words (asRead par)
+read-is : (m n : ℕ) (storage : Storage) (c a b : List Float) (words : List ℕ) (par : SolverParam) → readProblem (problemOf m n storage c a b words par) ≡ problemOf m n storage c a b (plainWords words) (asRead par)
 unfolding readProblem
 read-is m n storage c a b words par = refl
+
+few-words : (p : Problem) (work cone : ℕ) → refusal p work cone ≡ Accepted → length (p .words) ≤ mostWords
+few-words p work cone e = sizes-fit p (none-holds p work cone e 2) .words
 
 -- what the tests of the problem over the joined matrix leave to ask: that A's slices fit
 module _ (shape : Shape) (c : List Float) (a : Slices) (b : List Float) (words : List ℕ) (par : SolverParam) (work cone : List Float) where
@@ -89,12 +94,16 @@ module _ (m n : ℕ) (storage : Storage) (c a b : List Float) (words : List ℕ)
       rw (le-leb m limit hm, le-leb n limit hn, le-leb n n (omega arith), eq-eqb (length a) (m * n) long, none)
   whole-parts Packed hm hn long square = rw (eq-eqb m n (square refl), le-leb m limit hm, eq-eqb (length a) (triangle m) long)
 
-  pub taken : (r : Refusal) → r ≡ refusal (problemOf m n storage c a b words par) (length work) (length cone) → r ≡ Accepted → (read : SolverParam) → read ≡ asRead par → Taken whole-shape c (slices a []) b words read work cone
-  taken r h is read e =
-      let f = accepted-fits (problemOf m n storage c a b words par) (length work) (length cone) (sym (rw is at h)) in
-      taken-as-read whole-shape c (slices a []) b words par work cone (rw (append-nil a) f) (whole-parts storage (f .m-within) (f .n-within) (f .fitting .a) (f .square)) read e
+  pub handed : (r : Refusal) → r ≡ refusal (problemOf m n storage c a b words par) (length work) (length cone) → r ≡ Accepted → (read : SolverParam) → read ≡ asRead par → Handed whole-shape c (slices a []) b words read work cone
+  handed r h is read e =
+      let accepted = sym (rw is at h) in
+      let f = accepted-fits (problemOf m n storage c a b words par) (length work) (length cone) accepted in
+      record {
+        taken = taken-as-read whole-shape c (slices a []) b (plainWords words) par work cone (rw (append-nil a) f) (whole-parts storage (f .m-within) (f .n-within) (f .fitting .a) (f .square)) read e;
+        few-words = few-words (problemOf m n storage c a b words par) (length work) (length cone) accepted;
+      }
 
-  pub went-through : (r : Refusal) → r ≡ refusal (problemOf m n storage c a b words par) (length work) (length cone) → r ≡ Accepted → (read : SolverParam) → read ≡ asRead par → (answer : Answer) (work' cone' : List Float) → LeftAs (problemIn whole-shape c (slices a []) b words read) work cone answer work' cone' → SolveOutcome (problemOf m n storage c a b words par) work cone answer work' cone'
+  pub went-through : (r : Refusal) → r ≡ refusal (problemOf m n storage c a b words par) (length work) (length cone) → r ≡ Accepted → (read : SolverParam) → read ≡ asRead par → (answer : Answer) (work' cone' : List Float) → LeftAs (problemIn whole-shape c (slices a []) b (plainWords words) read) work cone answer work' cone' → SolveOutcome (problemOf m n storage c a b words par) work cone answer work' cone'
   went-through r h is read e answer work' cone' l =
       let s = solved-accepted (problemOf m n storage c a b words par) work cone (sym (rw is at h)) in
       let k = rw (append-nil a, e) at l in
@@ -126,13 +135,16 @@ module _ (m n n1 : ℕ) (c factory lesson b : List Float) (words : List ℕ) (pa
     accepted-joined : refusal (joinedProblem p) (length work) (length cone) ≡ Accepted
     accepted-joined = sym (same-refusal p (length work) (length cone) fitting) ∙ sym (rw is at h)
 
-    pub split-taken : (read : SolverParam) → read ≡ asRead par → Taken split-shape c (slices factory lesson) b words read work cone
-    split-taken read e =
+    pub split-handed : (read : SolverParam) → read ≡ asRead par → Handed split-shape c (slices factory lesson) b words read work cone
+    split-handed read e =
         let f = accepted-fits (joinedProblem p) (length work) (length cone) accepted-joined in
         let parts : partsFit split-shape (slices factory lesson) ≡ true = rw (le-leb m limit (f .m-within), le-leb n limit (f .n-within)) fitting in
-        taken-as-read split-shape c (slices factory lesson) b words par work cone f parts read e
+        record {
+          taken = taken-as-read split-shape c (slices factory lesson) b (plainWords words) par work cone f parts read e;
+          few-words = few-words (joinedProblem p) (length work) (length cone) accepted-joined;
+        }
 
-    pub split-went-through : (read : SolverParam) → read ≡ asRead par → (answer : Answer) (work' cone' : List Float) → LeftAs (problemIn split-shape c (slices factory lesson) b words read) work cone answer work' cone' → SplitOutcome p work cone answer work' cone'
+    pub split-went-through : (read : SolverParam) → read ≡ asRead par → (answer : Answer) (work' cone' : List Float) → LeftAs (problemIn split-shape c (slices factory lesson) b (plainWords words) read) work cone answer work' cone' → SplitOutcome p work cone answer work' cone'
     split-went-through read e answer work' cone' l =
         let s = split-runs-as-joined p work cone fitting ∙ solved-accepted (joinedProblem p) work cone accepted-joined in
         let k = rw e at l in
@@ -144,9 +156,12 @@ module _ (m n n1 : ℕ) (c factory lesson b : List Float) (words : List ℕ) (pa
 part-is : (needed : ℕ) (cone : List Float) → needed ≤ length cone → length (take (needed - 0) (drop 0 cone)) ≡ needed
 part-is needed cone h = rw (from-start needed) (length-take-le needed cone h)
 
+pub needed-fits : (shape : Shape) (c : List Float) (a : Slices) (b : List Float) (words : List ℕ) (par : SolverParam) (work cone : List Float) → Taken shape c a b words par work cone → (needed : ℕ) → needed ≡ coneWork (blocksOf words) → needed ≤ length cone
+needed-fits shape c a b words par work cone t needed e = rw e (t .cone-long)
+
 pub lent : (shape : Shape) (c : List Float) (a : Slices) (b : List Float) (words : List ℕ) (par : SolverParam) (work cone : List Float) → Taken shape c a b words par work cone → (needed : ℕ) → needed ≡ coneWork (blocksOf words) → Lent shape c a b words par work (take (needed - 0) (drop 0 cone))
 lent shape c a b words par work cone t needed e =
-    let h : needed ≤ length cone = rw e (t .cone-long) in
+    let h = needed-fits shape c a b words par work cone t needed e in
     record { ready = t .ready; steps = t .steps; work-long = t .work-long; cone-long = part-is needed cone h ∙ e }
 
 pub left-as : (p : Problem) (work cone : List Float) (needed : ℕ) → needed ≡ coneWork (blocks p) → (answer : Answer) (work' cone' : List Float) → RanIn p work answer work' cone' → LeftAs p work cone answer work' (put 0 needed cone cone')

@@ -10,8 +10,9 @@ use Rattle.rules.specs.declared.Ending.{Ending}
 use Rattle.rules.specs.declared.Shape.{Shape}
 use Rattle.rules.specs.declared.SolverParam.{SolverParam}
 use Rattle.rules.specs.declared.Verdict.{Verdict}
-use Rattle.rules.specs.Limits.{mostSteps}
+use Rattle.rules.specs.Limits.{mostWords, mostSteps}
 use Rattle.rules.specs.Blocks.{hasBadWord, blocksOf, totalPlaces}
+use Rattle.rules.specs.Groups.{plainWords}
 use Rattle.rules.specs.Projections.{sweepsFit}
 use Rattle.rules.specs.Product.{coneWork}
 use Rattle.rules.specs.Problem.{Problem, Slices, blocks, lengthX, lengthY, workLength}
@@ -67,6 +68,11 @@ pub record Taken (shape : Shape) (c : List Float) (a : Slices) (b : List Float) 
   pub steps : par .«max_iter» ≤ mostSteps
   pub work-long : workLength (shape .rows .0) (shape .cols .0) ≤ length work
   pub cone-long : coneWork (blocksOf words) ≤ length cone
+
+-- the same with its list as it was lent: the run is over the plain words
+pub record Handed (shape : Shape) (c : List Float) (a : Slices) (b : List Float) (words : List ℕ) (par : SolverParam) (work cone : List Float) : Type 0 where
+  pub taken : Taken shape c a b (plainWords words) par work cone
+  pub few-words : length words ≤ mostWords
 
 -- what an accepted run leaves, by the rule
 pub record LeftAs (p : Problem) (work cone : List Float) (answer : Answer) (work' cone' : List Float) : Type 0 where

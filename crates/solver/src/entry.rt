@@ -4,16 +4,18 @@ use rules::Answer;
 use rules::Cols;
 use rules::Ending;
 use rules::LIMIT;
+use rules::MOST_WORDS;
 use rules::Refusal;
 use rules::Rows;
 use rules::Shape;
 use rules::SolverParam;
 use rules::Storage;
 ghost use mathlib.Core.Path.{_≡_};
+ghost use Rattle.rules.specs.Groups.{plainWords};
 ghost use Rattle.rules.specs.Refusals.{SolveOutcome};
 ghost use Rattle.rules.specs.Problem.{slices, problemOf, problemIn};
 ghost use Rattle.rules.specs.Split.{splitOf, SplitOutcome};
-ghost use Rattle.solver.specs.Solve.{turnedAwayBy, Taken, LeftAs};
+ghost use Rattle.solver.specs.Solve.{turnedAwayBy, Handed, LeftAs};
 
 // The longest x and the longest y.
 const LONG_X: usize = 3 * LIMIT + 1;
@@ -147,7 +149,7 @@ fn turned_away(e: Ending) -> Answer
     }
 }
 
-// The six vectors are held apart, since two parts of one lent slice can't be lent at once.
+// The run is over the plain words of the list. The six vectors are held apart, since two parts of one lent slice can't be lent at once.
 fn accepted<'a>(
     par: SolverParam,
     shape: Shape,
@@ -159,10 +161,10 @@ fn accepted<'a>(
     work: &mut [f64],
     cone_work: &mut [f64],
 ) -> Answer
-    requires { ⌜ Taken shape (now c) (slices (now a1) (now a2)) (now b) (now words) par (now work) (now «cone_work») ⌝ }
+    requires { ⌜ Handed shape (now c) (slices (now a1) (now a2)) (now b) (now words) par (now work) (now «cone_work») ⌝ }
     ensures { λ r. ⌜
         LeftAs (problemIn shape (now (c .entry)) (slices (now (a1 .entry)) (now (a2 .entry)))
-        (now (b .entry)) (now (words .entry)) par)
+        (now (b .entry)) (plainWords (now (words .entry))) par)
         (now (work .entry)) (now («cone_work» .entry)) r (now (work .exit)) (now («cone_work» .exit))
         ⌝ }
 {
@@ -170,7 +172,10 @@ fn accepted<'a>(
     let n = shape.cols.0;
     let nx = n + m + m + 1;
     let ny = n + m + 1;
-    let needed = words::cone_work_len(words);
+    let mut plain = [0u16; MOST_WORDS];
+    let flattened = groups::flatten(words, &mut plain);
+    let count = groups::count_of(flattened);
+    let needed = words::cone_work_len(&plain[..count]);
     let mut x = [0.0; LONG_X];
     let mut y = [0.0; LONG_Y];
     let mut dp_tau = [0.0; LONG_X];
@@ -184,7 +189,7 @@ fn accepted<'a>(
         a1,
         a2,
         b,
-        words,
+        &plain[..count],
         &mut x[0..nx],
         &mut y[0..ny],
         &mut dp_tau[0..nx],

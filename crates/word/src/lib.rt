@@ -1,4 +1,4 @@
-// One cone word: the only place that knows how words are made. Everything else is over the blocks.
+// One cone word of a plain list: with the reader of groups the only place that knows how words are made. Everything else is over the blocks.
 use matrix::triangle;
 use rules::Cone;
 use rules::Word;

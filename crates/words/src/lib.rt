@@ -1,4 +1,5 @@
-// The cone list: whether it is good, the cone work that it needs, and whether it fits.
+// A plain cone list: whether it is good, the cone work that it needs, and whether it fits. A group's word is a bad one, as
+// those of the reserved kinds are.
 use block::block_work;
 use block::is_within;
 use block::places_of;

@@ -2,6 +2,8 @@
 //! has the number of cards and then each with its length before it; standard output the answers, one
 //! after another.
 
+mod grouped;
+
 use std::collections::BTreeMap;
 use std::fs;
 use std::io::{Error, Result};
@@ -11,7 +13,7 @@ use crate::card::{read, told, Card, Told};
 use crate::cone_list::Block;
 use crate::draw::{numbers, Sort};
 use crate::families::{lengthen, nonnegative, of_size, small, Family};
-use crate::handed::{stored, Handed, Vector};
+use crate::handed::{stored, Handed, ListRule, Vector};
 use crate::lists::runs::same_over_plain;
 use crate::original::Kind;
 use crate::random::Random;
@@ -19,8 +21,9 @@ use crate::random::Random;
 /// The cards of the folder cards/ that tell a story.
 const STORIES: [&str; 3] = ["fit", "contradiction", "no-bound"];
 
-/// The most words that were taken before request (vii) of document 02. Cards with more were drawn as refused ones, and still are drawn so.
-const WORDS_BEFORE: usize = 32;
+/// Up to 32 words were taken before request (vii) of document 02, and no group before request (viii). Cards with more words, or with one of
+/// kind 7, were drawn as refused ones, and still are drawn so.
+const BEFORE: ListRule = ListRule::without_groups(32);
 
 /// A run of more steps is not drawn by damaging a card.
 const MOST_STEPS: u64 = 1000;
@@ -90,6 +93,12 @@ impl Cards {
         let bytes = Card::of(p).bytes();
         assert_eq!(read(&bytes), Ok(Card::of(p)));
         self.push(&bytes);
+    }
+
+    fn all_good(&mut self, problems: Vec<Handed>) {
+        for p in &problems {
+            self.good(p);
+        }
     }
 
     fn input(&self) -> Vec<u8> {
@@ -275,7 +284,7 @@ fn with_faults(random: &mut Random, rows: &[usize]) -> Card {
                 REFUSED[row - 1](random, &mut card);
             }
         }
-        let first = card.raised().handed().refusal_by(WORDS_BEFORE);
+        let first = card.raised().handed().refusal_by(BEFORE);
         if first == rows.first().map(|row| *row as u64) {
             return card;
         }
@@ -401,7 +410,7 @@ fn longest(all: &mut Cards, random: &mut Random) {
 fn is_short(bytes: &[u8]) -> bool {
     match read(bytes) {
         Ok(card) => {
-            let refusal = card.raised().handed().refusal_by(WORDS_BEFORE);
+            let refusal = card.raised().handed().refusal_by(BEFORE);
             refusal.is_some() || card.max_iter <= MOST_STEPS
         }
         Err(_) => true,
@@ -511,6 +520,7 @@ fn drawn(seed: u64, all: &mut Cards) {
         all.push(&card.bytes());
     }
     longer_lists(all, &mut random);
+    grouped::all(all, &mut random);
 }
 
 /// Writes standard input and output of the program in `folder`; the cards that tell a story are in

@@ -2,6 +2,7 @@
 
 pub mod cards;
 pub mod cones;
+mod grouped;
 pub mod kernels;
 pub mod roots;
 pub mod runs;

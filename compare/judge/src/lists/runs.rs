@@ -1,6 +1,7 @@
 //! The list of runs: a whole problem, what is lent with it, and what document 01's table or the
 //! original answers. The layout of each record is in compare/README.md.
 
+mod grouped;
 mod refusals;
 mod term;
 
@@ -145,6 +146,12 @@ impl Records {
         match p.refusal() {
             Some(number) => self.refused(p, number),
             None => self.run(p),
+        }
+    }
+
+    fn take_all(&mut self, problems: Vec<Handed>) {
+        for p in &problems {
+            self.take(p);
         }
     }
 
@@ -341,6 +348,7 @@ fn records(seed: u64) -> Records {
         all.take(&p);
     }
     term::all(&mut all, &mut random);
+    grouped::all(&mut all, &mut random);
     all
 }
 
@@ -368,7 +376,7 @@ pub fn make(seed: u64, path: &Path) -> std::io::Result<()> {
 #[cfg(test)]
 mod tests {
     use super::*;
-    use crate::handed::LIMIT;
+    use crate::handed::{LIMIT, MOST_WORDS};
 
     /// Each record names its own end, a seed draws the same list again, and no answer is rare.
     #[test]
@@ -380,6 +388,7 @@ mod tests {
         while at < all.words.len() {
             assert!(all.words[at] < 32);
             assert!(all.words[at + 1] <= room);
+            assert!(all.words[at + 10] <= MOST_WORDS as u64 + 8);
             at += 2 + all.words[at + 1] as usize;
             met += 1;
         }
@@ -408,7 +417,8 @@ mod tests {
     fn a_tolerance_below_zero_is_told() {
         let mut random = Random::new(1);
         let taken = refusals::base(&mut random).raised();
-        let other = refusals::one(&mut random, 4).raised();
+        let mut other = taken.clone();
+        other.words.push(5 << 13);
         for (mut p, tag, answers) in [(taken, BELOW_ZERO, 1), (other, 0, 4)] {
             let mut all = Records::default();
             p.eps_inf = -1.0;

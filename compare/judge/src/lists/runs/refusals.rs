@@ -6,13 +6,17 @@ use crate::cone_list::Block;
 use crate::draw::{numbers, Sort};
 use crate::families::{of_size, small, Family};
 use crate::handed::{
-    stored, work_places, Handed, Vector, LIMIT, MOST_WORDS, TOO_LARGE, WORK_SHORTAGE,
+    stored, work_places, Handed, ListRule, Vector, LIMIT, MOST_WORDS, TOO_LARGE, WORK_SHORTAGE,
 };
 use crate::original::Kind;
 use crate::random::Random;
 
 /// The most numbers of A that the replay has room for.
 pub const MOST_OF_A: usize = LIMIT * (LIMIT + 1) / 2;
+
+/// What is drawn here is judged by the table as it was before request (viii): a fault of row 4 may be a word of kind 7, which
+/// is a group since then, and the list has what the new table answers.
+const BEFORE: ListRule = ListRule::without_groups(MOST_WORDS);
 
 /// A problem of n and m up to 5.
 pub fn base(random: &mut Random) -> Handed {
@@ -214,7 +218,7 @@ pub fn one(random: &mut Random, number: u64) -> Handed {
             base(random)
         };
         FAULTS[number as usize - 1](random, &mut p);
-        if p.raised().refusal() == Some(number) {
+        if p.raised().refusal_by(BEFORE) == Some(number) {
             return p;
         }
     }
@@ -231,7 +235,7 @@ pub fn several(random: &mut Random, rows: &[u64]) -> Handed {
         for row in &order {
             FAULTS[*row as usize - 1](random, &mut p);
         }
-        if p.raised().refusal() == rows.iter().min().copied() {
+        if p.raised().refusal_by(BEFORE) == rows.iter().min().copied() {
             return p;
         }
     }

@@ -1,7 +1,7 @@
 -- `solver::entry::solve` meets its contract: turned away by the check, or run as the problem is read.
 use borrow.Author.Needs.{needs}
 use Rattle.rules.specs.Problem.{problemOf}
-use Rattle.solver.proofs.Outcomes.{taken, turned-away, went-through}
+use Rattle.solver.proofs.Outcomes.{handed, turned-away, went-through}
 use Rattle.solver.proofs.entry.solve.Statement.{statement}
 use Rattle.solver.proofs.entry.solve.Tie as tie
 
@@ -26,7 +26,7 @@ slice-aggregate-accepted c = search needs
 accepted-requires : tie.Need-accepted-requires
 accepted-requires c κs =
     let k = c .before .before .before .before .before .before .before .before .before .before .before .before .before .args in
-    taken (k .rows .0) (k .cols .0) (k .storage) (k .c .now) (k .a .now) (k .b .now) (k .words .now) (k .par) (k .work .now) (k .cone-work .now) _ (c .before .before .before .before .before .before .check .ensures) (c .before .before .before .before .enum-told .given .1) _ (c .before .before .before .read-eps .ensures)
+    handed (k .rows .0) (k .cols .0) (k .storage) (k .c .now) (k .a .now) (k .b .now) (k .words .now) (k .par) (k .work .now) (k .cone-work .now) _ (c .before .before .before .before .before .before .check .ensures) (c .before .before .before .before .enum-told .given .1) _ (c .before .before .before .read-eps .ensures)
 
 returns : tie.Need-returns
 returns c =

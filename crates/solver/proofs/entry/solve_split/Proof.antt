@@ -1,7 +1,7 @@
 -- `solver::entry::solve_split` meets its contract: turned away by the check, or run as the problem is read.
 use borrow.Author.Needs.{needs}
 use Rattle.rules.specs.Split.{splitOf}
-use Rattle.solver.proofs.Outcomes.{split-taken, split-turned-away, split-went-through}
+use Rattle.solver.proofs.Outcomes.{split-handed, split-turned-away, split-went-through}
 use Rattle.solver.proofs.entry.solve_split.Statement.{statement}
 use Rattle.solver.proofs.entry.solve_split.Tie as tie
 
@@ -23,7 +23,7 @@ read-eps-requires c κs = search needs
 accepted-requires : tie.Need-accepted-requires
 accepted-requires c κs =
     let k = c .before .before .before .before .before .before .before .before .before .before .before .before .before .args in
-    split-taken (k .rows .0) (k .cols .0) (k .first .0) (k .c .now) (k .factory .now) (k .lesson .now) (k .b .now) (k .words .now) (k .par) (k .work .now) (k .cone-work .now) _ (c .before .before .before .before .before .check-split .ensures) (c .before .before .before .enum-told .given .1) _ (c .before .before .read-eps .ensures)
+    split-handed (k .rows .0) (k .cols .0) (k .first .0) (k .c .now) (k .factory .now) (k .lesson .now) (k .b .now) (k .words .now) (k .par) (k .work .now) (k .cone-work .now) _ (c .before .before .before .before .before .check-split .ensures) (c .before .before .before .enum-told .given .1) _ (c .before .before .read-eps .ensures)
 
 returns : tie.Need-returns
 returns c =

@@ -48,7 +48,12 @@ unfoldable pub reciprocal : Float → Float
 unfolding one Ieee.div
 reciprocal x = Ieee.div binary64 one x
 
--- ---- what is finite: neither infinite nor a NaN
+-- ---- what is infinite, and what is finite: neither infinite nor a NaN
+
+abbrev pub isInfinite : Float → Bool
+isInfinite nan = false
+isInfinite (inf s) = true
+isInfinite (fin s m e) = false
 
 abbrev pub isFinite : Float → Bool
 isFinite nan = false

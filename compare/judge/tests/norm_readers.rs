@@ -258,7 +258,7 @@ fn runs_without_a_large_norm_are_the_originals() {
     }
 }
 
-/// The last three of the table lose no more than what is far below the last place, and of the lists' numbers only chains of ties tell them
+/// The last three of the table lose nothing, or no more than what is far below the last place, and of the lists' numbers only chains of ties tell them
 /// (`large_norms::ties` of the judge).
 ///
 /// - A sum above 2^1022 has a last place of 2^970 or more. By 2^−600 squares up to 2^125 are lost and those below 2^178 rounded, by 2^−900

@@ -41,7 +41,7 @@ pub fn dense(list: &[(Kind, usize)], c: Vec<f64>, a: Vec<f64>, b: Vec<f64>) -> H
     }
 }
 
-/// What the request came of: a reading of −10^200. The Frobenius norm of b is infinite and the residual's norm is not, so each criterion is 0.
+/// The finding of docs/FINDINGS.md, 8: a reading of −10^200. The Frobenius norm of b is infinite and the residual's norm is not, so the first criterion is 0; the others are since c is.
 pub fn finding() -> Handed {
     let mut p = dense(
         &[(Kind::Nonnegative, 1)],

@@ -422,7 +422,7 @@ mod tests {
         assert_eq!(all.words[all.words.len() - 8..], [3, 0, 0, 0, 0, 0, 0, 0]);
     }
 
-    /// Request (ix)'s finding meets the difference, and the same with a reading whose square is finite does not.
+    /// The finding of docs/FINDINGS.md, 8, meets the difference, and the same with a reading whose square is finite does not.
     #[test]
     fn a_large_norm_is_told() {
         use crate::lists::large_norms::{finding, BELOW};

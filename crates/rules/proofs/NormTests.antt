@@ -3,7 +3,7 @@ use Prim.Native.Nat.{ℕ, zero, suc, _*_, _^_, _≤_}
 use native.Mathlib.Omega.{arith}
 use mathlib.Core.Path.{_≡_, refl, sym, _∙_, ap}
 use mathlib.Core.Bool.{Bool, true, false, _&&_, and-true, and-assoc, false≢true, true≢false}
-use mathlib.Core.Logic.{inl, inr, ⊎-elim}
+use mathlib.Core.Logic.{⊎-elim}
 use mathlib.Core.List.{List}
 use lib.Dec.{T}
 use lib.Ieee.{Float, nan, inf, fin, binary64, ofBits, up, down, add, mul, eq, fits, isNan}
@@ -15,7 +15,8 @@ use Rattle.rules.specs.Root.{root, isNumber}
 use Rattle.rules.specs.Arithmetic.{_+ᶠ_, _*ᶠ_, at, sumFrom, sumTo}
 use Rattle.rules.specs.Vectors.{plainSum, plainNorm, two^−600, scaledNorm, norm, scaled}
 use Rattle.rules.proofs.RootNearest.{root-is-nearest}
-use Rattle.rules.proofs.LargeNorms.{hasSign, isPlus, NotMinus, round-sign, square-plus, add-plus, square-not-minus, add-nan, nan-add, squares, sum-not-minus, plain-infinite, norm-of-not-finite, norm-of-large, scaled-summed}
+use Rattle.rules.proofs.Signs.{hasSign, isPlus, round-sign, square-plus, add-plus, square-not-minus, plus-terms, infinite-stays, infinite-comes, signed-is-number}
+use Rattle.rules.proofs.LargeNorms.{squares, sum-not-minus, plain-infinite, norm-of-not-finite, norm-of-large, scaled-summed}
 
 -- The root of a sum of squares is infinite exactly where the sum is.
 number-not-infinite : (r : Float) → T (isNumber r) → isInfinite r ≡ false
@@ -43,32 +44,6 @@ unfolding root
 norm-infinite-exactly x = ⊎-elim (λ e. rw e refl) (λ e. root-infinite (plainSum x) e (sum-fits (squares x) (length x))) (sum-not-minus x (length x))
 
 -- An infinite number stays infinite when it is made smaller.
-plus-terms : (x y : Float) → NotMinus x → NotMinus y → isPlus (x +ᶠ y) ≡ true → (isPlus x ≡ true) × (isPlus y ≡ true)
-unfolding hasSign
-plus-terms x y (inl e) u h = absurd (false≢true (rw (e, nan-add y) at h))
-plus-terms x y (inr e) (inl f) h = absurd (false≢true (rw (f, add-nan x) at h))
-plus-terms x y (inr e) (inr f) h = (e, f)
-
-infinite-stays : (y : Float) → isPlus y ≡ true → inf false +ᶠ y ≡ inf false
-unfolding hasSign add
-infinite-stays nan e = absurd (false≢true e)
-infinite-stays (inf true) e = absurd (false≢true e)
-infinite-stays (inf false) e = refl
-infinite-stays (fin t n c) e = refl
-
-infinite-comes : (x : Float) → isPlus x ≡ true → x +ᶠ inf false ≡ inf false
-unfolding hasSign add
-infinite-comes nan e = absurd (false≢true e)
-infinite-comes (inf true) e = absurd (false≢true e)
-infinite-comes (inf false) e = refl
-infinite-comes (fin t n c) e = refl
-
-signed-is-number : (s : Bool) (x : Float) → hasSign s x ≡ true → isNan x ≡ false
-unfolding hasSign isNan
-signed-is-number s nan e = absurd (false≢true e)
-signed-is-number s (inf t) e = refl
-signed-is-number s (fin t m d) e = refl
-
 abbrev small : Float → Float
 small v = two^−600 *ᶠ v
 

@@ -2,7 +2,7 @@
 ghost use mathlib.Core.Path.{_≡_};
 ghost use Rattle.rules.specs.Vectors as rules;
 
-// The root of the sum of squares. Where that sum is infinite though each number is finite, the numbers are made smaller first.
+// The root of the sum of squares. Where that sum is infinite though each number is finite, it is taken of smaller numbers and made larger again.
 pub fn norm(x: &[f64]) -> f64
     ensures { λ r. ⌜ r ≡ rules.norm (now (x .entry)) ⌝ }
 {

@@ -1,9 +1,10 @@
 //! A cone that holds a list: the blocks stand one after another, each answered by the original.
 
+use std::marker::PhantomData;
 use totsu_core::solver::Cone;
-use totsu_core::FloatGeneric;
 
 use crate::original::{order, product_group, proj, Kind, KINDS};
+use crate::ruled_norm::Algebra;
 use crate::seen::Number;
 
 #[derive(Clone, Copy, Debug, PartialEq)]
@@ -48,14 +49,33 @@ pub struct Progress {
     pub failed: Option<usize>,
 }
 
-pub struct ConeList<'a, F> {
-    pub blocks: &'a [Block],
-    pub work: &'a mut [F],
-    pub eps_zero: F,
-    pub progress: &'a mut Progress,
+/// Its blocks are projected over the linear algebra C.
+pub struct ConeList<'a, F, C> {
+    blocks: &'a [Block],
+    work: &'a mut [F],
+    eps_zero: F,
+    progress: &'a mut Progress,
+    algebra: PhantomData<C>,
 }
 
-impl<F: Number> Cone<FloatGeneric<F>> for ConeList<'_, F> {
+impl<'a, F: Number, C: Algebra<F>> ConeList<'a, F, C> {
+    pub fn new(
+        blocks: &'a [Block],
+        work: &'a mut [F],
+        eps_zero: F,
+        progress: &'a mut Progress,
+    ) -> ConeList<'a, F, C> {
+        ConeList {
+            blocks,
+            work,
+            eps_zero,
+            progress,
+            algebra: PhantomData,
+        }
+    }
+}
+
+impl<F: Number, L: Algebra<F>, C: Algebra<F>> Cone<L> for ConeList<'_, F, C> {
     fn proj(&mut self, dual_cone: bool, x: &mut [F]) -> Result<(), ()> {
         if dual_cone {
             self.progress.steps += 1;
@@ -64,7 +84,7 @@ impl<F: Number> Cone<FloatGeneric<F>> for ConeList<'_, F> {
         for (i, block) in self.blocks.iter().enumerate() {
             let (part, after) = rest.split_at_mut(block.size);
             rest = after;
-            if proj(block.kind, dual_cone, part, self.work, self.eps_zero).is_err() {
+            if proj::<F, C>(block.kind, dual_cone, part, self.work, self.eps_zero).is_err() {
                 self.progress.failed = Some(i);
                 return Err(());
             }
@@ -77,7 +97,7 @@ impl<F: Number> Cone<FloatGeneric<F>> for ConeList<'_, F> {
         for block in self.blocks {
             let (part, after) = rest.split_at_mut(block.size);
             rest = after;
-            product_group(block.kind, part, group);
+            product_group::<F, C>(block.kind, part, group);
         }
     }
 }

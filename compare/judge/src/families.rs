@@ -5,7 +5,7 @@ use totsu_core::MatType;
 use crate::cone_list::{work_len, Block};
 use crate::draw::{number, numbers, Sort};
 use crate::handed::{stored, work_places, Handed, Vector};
-use crate::original::{op, proj, trans_op, Kind, KINDS};
+use crate::original::{op, proj, trans_op, Kind, KINDS, L};
 use crate::random::Random;
 
 #[derive(Clone, Copy, Debug, PartialEq)]
@@ -140,7 +140,7 @@ fn inside(random: &mut Random, list: &[Block], dual: bool) -> Vec<f64> {
                 next += 1;
             }
         } else {
-            proj(block.kind, dual, &mut part, &mut [], 0.0).unwrap();
+            proj::<f64, L>(block.kind, dual, &mut part, &mut [], 0.0).unwrap();
         }
         all.extend(part);
     }

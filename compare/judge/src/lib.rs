@@ -11,6 +11,7 @@ pub mod lists;
 pub mod original;
 pub mod problem;
 pub mod random;
+pub mod ruled_norm;
 pub mod ruled_sums;
 pub mod seen;
 pub mod standard;

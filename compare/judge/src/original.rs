@@ -7,6 +7,7 @@ use totsu_core::{
     ConePSD, ConeRPos, ConeRotSOC, ConeSOC, ConeZero, FloatGeneric, LinAlgEx, MatOp, MatType,
 };
 
+use crate::ruled_norm::Algebra;
 use crate::seen::{Number, SweepLimit};
 
 pub type L = FloatGeneric<f64>;
@@ -165,9 +166,9 @@ pub fn order(size: usize) -> Option<usize> {
         .filter(|d| d * (d + 1) / 2 == size)
 }
 
-/// One block's projection. `work` serves semidefinite blocks alone. With a watched number the
+/// One block's projection, over the original's own linear algebra or one with another norm. `work` serves semidefinite blocks alone. With a watched number the
 /// sweep limit in force makes it fail; with a plain f64 a Jacobi loop without end stays so.
-pub fn proj<F: Number>(
+pub fn proj<F: Number, L: Algebra<F>>(
     kind: Kind,
     dual: bool,
     x: &mut [F],
@@ -175,15 +176,13 @@ pub fn proj<F: Number>(
     eps_zero: F,
 ) -> Result<(), ()> {
     match kind {
-        Kind::Zero => ConeZero::<FloatGeneric<F>>::new().proj(dual, x),
-        Kind::Nonnegative => ConeRPos::<FloatGeneric<F>>::new().proj(dual, x),
-        Kind::SecondOrder => ConeSOC::<FloatGeneric<F>>::new().proj(dual, x),
-        Kind::Rotated => ConeRotSOC::<FloatGeneric<F>>::new().proj(dual, x),
+        Kind::Zero => ConeZero::<L>::new().proj(dual, x),
+        Kind::Nonnegative => ConeRPos::<L>::new().proj(dual, x),
+        Kind::SecondOrder => ConeSOC::<L>::new().proj(dual, x),
+        Kind::Rotated => ConeRotSOC::<L>::new().proj(dual, x),
         Kind::Semidefinite => {
             let order = order(x.len()).expect("a triangular size");
-            within_sweep_limit::<F>(order, || {
-                ConePSD::<FloatGeneric<F>>::new(work, eps_zero).proj(dual, x)
-            })
+            within_sweep_limit::<F>(order, || ConePSD::<L>::new(work, eps_zero).proj(dual, x))
         }
     }
 }
@@ -217,14 +216,16 @@ fn within_sweep_limit<F: Number>(
 }
 
 /// One block's grouping, by the group function the solver gives.
-pub fn product_group<F: Float, G: Fn(&mut [F]) + Copy>(kind: Kind, dp_tau: &mut [F], group: G) {
+pub fn product_group<F: Number, L: Algebra<F>>(
+    kind: Kind,
+    dp_tau: &mut [F],
+    group: impl Fn(&mut [F]) + Copy,
+) {
     match kind {
-        Kind::Zero => ConeZero::<FloatGeneric<F>>::new().product_group(dp_tau, group),
-        Kind::Nonnegative => ConeRPos::<FloatGeneric<F>>::new().product_group(dp_tau, group),
-        Kind::SecondOrder => ConeSOC::<FloatGeneric<F>>::new().product_group(dp_tau, group),
-        Kind::Rotated => ConeRotSOC::<FloatGeneric<F>>::new().product_group(dp_tau, group),
-        Kind::Semidefinite => {
-            ConePSD::<FloatGeneric<F>>::new(&mut [], F::zero()).product_group(dp_tau, group)
-        }
+        Kind::Zero => ConeZero::<L>::new().product_group(dp_tau, group),
+        Kind::Nonnegative => ConeRPos::<L>::new().product_group(dp_tau, group),
+        Kind::SecondOrder => ConeSOC::<L>::new().product_group(dp_tau, group),
+        Kind::Rotated => ConeRotSOC::<L>::new().product_group(dp_tau, group),
+        Kind::Semidefinite => ConePSD::<L>::new(&mut [], F::zero()).product_group(dp_tau, group),
     }
 }

@@ -5,6 +5,7 @@ use totsu_core::{FloatGeneric, MatOp, MatType};
 
 use crate::cone_list::{work_len, Block, ConeList, Progress};
 use crate::original::{stops_on_column_sums, stops_on_row_sums};
+use crate::ruled_norm::{Algebra, RuledNorm};
 use crate::ruled_sums::RuledSums;
 use crate::seen::{sight, watch, Number, Seen};
 
@@ -42,10 +43,12 @@ pub struct Answer {
     /// Larger and smaller of −0 and +0: those that the machine has otherwise, and all. See `seen`.
     pub other_zeros: u64,
     pub unlike_zeros: u64,
+    /// Norms of finite numbers whose plain sum is infinite: the original's own norm is another, and so may its run be.
+    pub large_norms: u64,
 }
 
 impl Answer {
-    /// Whether the original over plain f64 must come to the same: it ends, and the machine has each
+    /// Whether a run over plain f64 must come to the same: it ends, and the machine has each
     /// zero as the standard has it.
     pub fn has_plain_form(&self) -> bool {
         !matches!(self.ending, Ending::ConeFailure(_)) && self.other_zeros == 0
@@ -76,18 +79,19 @@ impl Problem {
     }
 
     /// One run over zeroed work. With plain f64 it may never come back: Jacobi has no limit.
-    pub fn run<F: Number>(&self) -> Bare {
+    /// The solver is run over the linear algebra L, its cone list over C.
+    pub fn run<F: Number, L: Algebra<F>, C: Algebra<F>>(&self) -> Bare {
         let (m, n) = self.a_type.size();
         let of = |xs: &[f64]| xs.iter().map(|x| F::of(*x)).collect::<Vec<F>>();
         let plain = |xs: Vec<F>| xs.into_iter().map(F::plain).collect();
         let (c, a, b) = (of(&self.c), of(&self.a), of(&self.b));
 
-        let work_places = Solver::<FloatGeneric<F>>::query_worklen((m, n));
+        let work_places = Solver::<L>::query_worklen((m, n));
         let mut work = vec![F::zero(); work_places];
         let mut cone_work = vec![F::zero(); work_len(&self.blocks)];
         let mut progress = Progress::default();
 
-        let verdict = Solver::<FloatGeneric<F>>::new()
+        let verdict = Solver::<L>::new()
             .par(|p| {
                 p.max_iter = Some(self.max_iter);
                 p.eps_acc = F::of(self.eps_acc);
@@ -99,12 +103,12 @@ impl Problem {
                 MatOp::new(MatType::General(n, 1), &c),
                 RuledSums::new(self.a_type, &a),
                 MatOp::new(MatType::General(m, 1), &b),
-                ConeList {
-                    blocks: &self.blocks,
-                    work: &mut cone_work,
-                    eps_zero: F::of(self.eps_zero),
-                    progress: &mut progress,
-                },
+                ConeList::<F, C>::new(
+                    &self.blocks,
+                    &mut cone_work,
+                    F::of(self.eps_zero),
+                    &mut progress,
+                ),
                 &mut work,
             ))
             .map(|_| ());
@@ -116,11 +120,34 @@ impl Problem {
         }
     }
 
+    /// The original as it is, over plain f64.
+    pub fn original(&self) -> Bare {
+        self.run::<f64, FloatGeneric<f64>, FloatGeneric<f64>>()
+    }
+
     /// The watched run, with all that an ending carries.
     pub fn solve(&self) -> Answer {
+        self.solve_over::<RuledNorm<Seen>, RuledNorm<Seen>>()
+    }
+
+    /// As it was before request (ix) of document 02, with the original's own norm. What was drawn by its ending still is.
+    pub fn solve_before(&self) -> Answer {
+        self.solve_over::<FloatGeneric<Seen>, FloatGeneric<Seen>>()
+    }
+
+    /// The run over plain f64 that must come to this answer: the original's own where no norm was large.
+    pub fn plain_form(&self, answer: &Answer) -> Bare {
+        if answer.large_norms == 0 {
+            self.original()
+        } else {
+            self.run::<f64, RuledNorm<f64>, RuledNorm<f64>>()
+        }
+    }
+
+    pub fn solve_over<L: Algebra<Seen>, C: Algebra<Seen>>(&self) -> Answer {
         watch(self.sweep_limit);
         log::listen();
-        let mut run = self.run::<Seen>();
+        let mut run = self.run::<Seen, L, C>();
         let line = log::heard().unwrap_or_default();
         let seen = sight();
 
@@ -154,6 +181,7 @@ impl Problem {
             cone_work: run.cone_work,
             other_zeros: seen.other_zeros,
             unlike_zeros: seen.unlike_zeros,
+            large_norms: seen.large_norms,
         }
     }
 }

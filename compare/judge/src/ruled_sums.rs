@@ -1,18 +1,18 @@
 //! The original's matrix, but for the empty ones on whose sums it stops: there document 01 adds 0.
 
-use totsu_core::solver::Operator;
-use totsu_core::{FloatGeneric, MatOp, MatType};
+use num_traits::Zero;
+use totsu_core::solver::{Operator, SliceLike};
+use totsu_core::{LinAlgEx, MatOp, MatType};
 
 use crate::original::{stops_on_column_sums, stops_on_row_sums};
-use crate::seen::Number;
 
-pub struct RuledSums<'a, F: Number> {
+pub struct RuledSums<'a, L: LinAlgEx> {
     typ: MatType,
-    original: MatOp<'a, FloatGeneric<F>>,
+    original: MatOp<'a, L>,
 }
 
-impl<'a, F: Number> RuledSums<'a, F> {
-    pub fn new(typ: MatType, array: &'a [F]) -> RuledSums<'a, F> {
+impl<'a, L: LinAlgEx> RuledSums<'a, L> {
+    pub fn new(typ: MatType, array: &'a [L::F]) -> RuledSums<'a, L> {
         RuledSums {
             typ,
             original: MatOp::new(typ, array),
@@ -20,36 +20,36 @@ impl<'a, F: Number> RuledSums<'a, F> {
     }
 }
 
-fn add_zero<F: Number>(y: &mut [F]) {
-    for e in y {
-        *e = F::zero() + *e;
+fn add_zero<L: LinAlgEx>(y: &mut L::Sl) {
+    for e in y.get_mut() {
+        *e = L::F::zero() + *e;
     }
 }
 
-impl<F: Number> Operator<FloatGeneric<F>> for RuledSums<'_, F> {
+impl<L: LinAlgEx> Operator<L> for RuledSums<'_, L> {
     fn size(&self) -> (usize, usize) {
         self.original.size()
     }
 
-    fn op(&self, alpha: F, x: &[F], beta: F, y: &mut [F]) {
+    fn op(&self, alpha: L::F, x: &L::Sl, beta: L::F, y: &mut L::Sl) {
         self.original.op(alpha, x, beta, y);
     }
 
-    fn trans_op(&self, alpha: F, x: &[F], beta: F, y: &mut [F]) {
+    fn trans_op(&self, alpha: L::F, x: &L::Sl, beta: L::F, y: &mut L::Sl) {
         self.original.trans_op(alpha, x, beta, y);
     }
 
-    fn absadd_cols(&self, tau: &mut [F]) {
+    fn absadd_cols(&self, tau: &mut L::Sl) {
         if stops_on_column_sums(self.typ) {
-            add_zero(tau);
+            add_zero::<L>(tau);
         } else {
             self.original.absadd_cols(tau);
         }
     }
 
-    fn absadd_rows(&self, sigma: &mut [F]) {
+    fn absadd_rows(&self, sigma: &mut L::Sl) {
         if stops_on_row_sums(self.typ) {
-            add_zero(sigma);
+            add_zero::<L>(sigma);
         } else {
             self.original.absadd_rows(sigma);
         }

@@ -1,7 +1,7 @@
 //! An f64 that is watched while the original computes with it. The original is generic over its
 //! number, so what it keeps to itself can be seen from below, its text unchanged: the rotations
-//! made, the sweeps taken (and a stop when they pass the limit), the criteria in full, and
-//! every larger or smaller of −0 and +0, or of a signalling NaN. Of −0 and +0 it hands the original
+//! made, the sweeps taken (and a stop when they pass the limit), the criteria in full,
+//! every larger or smaller of −0 and +0, or of a signalling NaN, and every large norm. Of −0 and +0 it hands the original
 //! the standard's zero, whichever the machine has, and counts where the machine has the other.
 
 use num_traits::{Float, NumCast, One, ToPrimitive, Zero};
@@ -20,6 +20,8 @@ pub trait Number: Float + fmt::Debug + fmt::LowerExp + 'static {
     fn plain(self) -> f64;
     /// Said before each semidefinite projection.
     fn jacobi_begins(order: usize);
+    /// Said of each norm of finite numbers whose plain sum is infinite.
+    fn large_norm();
 }
 
 impl Number for f64 {
@@ -30,6 +32,7 @@ impl Number for f64 {
         self
     }
     fn jacobi_begins(_order: usize) {}
+    fn large_norm() {}
 }
 
 #[derive(Clone, Copy)]
@@ -55,6 +58,8 @@ struct Watch {
     other_zeros: u64,
     unlike_zeros: u64,
     signalling: u64,
+    large_norms: u64,
+    lent_root: Option<f64>,
     // The semidefinite projection under way.
     next: Next,
     pairs: usize,
@@ -69,6 +74,8 @@ const IDLE: Watch = Watch {
     other_zeros: 0,
     unlike_zeros: 0,
     signalling: 0,
+    large_norms: 0,
+    lent_root: None,
     next: Next::None,
     pairs: 0,
     left: 0,
@@ -89,6 +96,8 @@ pub struct Sight {
     pub unlike_zeros: u64,
     /// How often a larger or smaller had a signalling NaN.
     pub signalling: u64,
+    /// How often a norm of finite numbers had an infinite plain sum.
+    pub large_norms: u64,
 }
 
 /// Starts the counts anew, with this sweep limit.
@@ -99,6 +108,14 @@ pub fn watch(sweep_limit: usize) {
     });
 }
 
+/// The next root is this number, whatever it is taken of. For a reading of the rules that has no such root (tests/norm_readers.rs).
+pub fn lend_root(root: f64) {
+    WATCH.set(Watch {
+        lent_root: Some(root),
+        ..WATCH.get()
+    });
+}
+
 pub fn sight() -> Sight {
     let w = WATCH.get();
     Sight {
@@ -106,6 +123,7 @@ pub fn sight() -> Sight {
         other_zeros: w.other_zeros,
         unlike_zeros: w.unlike_zeros,
         signalling: w.signalling,
+        large_norms: w.large_norms,
     }
 }
 
@@ -152,6 +170,11 @@ impl Number for Seen {
         w.sweep = 1;
         w.rotated = false;
         w.next = if w.pairs > 0 { Next::First } else { Next::None };
+        WATCH.set(w);
+    }
+    fn large_norm() {
+        let mut w = WATCH.get();
+        w.large_norms += 1;
         WATCH.set(w);
     }
 }
@@ -208,7 +231,10 @@ impl Float for Seen {
         Seen(f64::INFINITY)
     }
     fn sqrt(self) -> Seen {
-        Seen(Float::sqrt(self.0))
+        let mut w = WATCH.get();
+        let root = w.lent_root.take();
+        WATCH.set(w);
+        Seen(root.unwrap_or_else(|| Float::sqrt(self.0)))
     }
     fn abs(self) -> Seen {
         Seen(Float::abs(self.0))

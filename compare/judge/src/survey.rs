@@ -20,7 +20,7 @@ fn ending_name(ending: &Ending) -> &'static str {
 pub fn survey(seed: u64, count: usize) {
     let mut random = Random::new(seed);
     let mut endings: BTreeMap<&str, usize> = BTreeMap::new();
-    let mut below_zero = 0;
+    let (mut below_zero, mut large_norms) = (0, 0);
     let (mut stopped, mut steps, mut rotations, mut zeros, mut unlike) = (0, 0, 0, 0, 0);
     for i in 0..count {
         let drawn = small(&mut random, FAMILIES[i % FAMILIES.len()]);
@@ -32,8 +32,9 @@ pub fn survey(seed: u64, count: usize) {
         steps += answer.k;
         rotations += answer.q;
         zeros += usize::from(answer.unlike_zeros > 0);
+        large_norms += usize::from(answer.large_norms > 0);
         if answer.has_plain_form() {
-            let plain = p.run::<f64>();
+            let plain = p.plain_form(&answer);
             let same = plain.progress.steps == answer.k
                 && words(&plain.work) == words(&answer.work)
                 && words(&plain.cone_work) == words(&answer.cone_work);
@@ -51,5 +52,6 @@ pub fn survey(seed: u64, count: usize) {
     println!("{stopped} runs on whose empty matrix the original stops, had with the rule's sums");
     println!("{steps} steps, {rotations} rotations");
     println!("{zeros} runs with a larger or smaller of -0 and +0");
+    println!("{large_norms} runs with a norm whose plain sum is infinite, of finite numbers");
     println!("{unlike} runs whose watched and plain forms differ");
 }

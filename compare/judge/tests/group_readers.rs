@@ -181,7 +181,8 @@ fn answered() -> [Vec<(Handed, Option<u64>)>; 2] {
     let cards = stored::cards();
     let cards = cards.into_iter().map(|(card, answer)| {
         let refusal = answer.strip_prefix("Refused ");
-        (card.handed(), refusal.map(|number| number.parse().unwrap()))
+        let number = refusal.map(|number| number.trim().parse().unwrap());
+        (card.handed(), number)
     });
     [runs.collect(), cards.collect()]
 }

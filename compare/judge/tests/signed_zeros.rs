@@ -1,7 +1,7 @@
 //! Whether a run can have −0 beside +0 in a larger or smaller: docs/DIFFERENCES.md says why none
 //! has.
 
-use totsu_core::MatType;
+use totsu_core::{FloatGeneric, MatType};
 
 use judge::cone_list::Block;
 use judge::original::{self as ask, Kind};
@@ -63,7 +63,8 @@ fn no_small_run_has_unlike_zeros() {
 fn a_projection_has_unlike_zeros() {
     watch(1);
     let mut x = [Seen(-0.0), Seen(-1.0)];
-    ask::proj(Kind::Nonnegative, false, &mut x, &mut [], Seen(0.0)).unwrap();
+    ask::proj::<Seen, FloatGeneric<Seen>>(Kind::Nonnegative, false, &mut x, &mut [], Seen(0.0))
+        .unwrap();
     assert_eq!(x.map(|v| v.0.to_bits()), [0, 0]);
     assert_eq!(sight().unlike_zeros, 1);
 }

@@ -3,7 +3,7 @@
 
 use num_traits::Float;
 use std::panic::catch_unwind;
-use totsu_core::MatType;
+use totsu_core::{FloatGeneric, MatType};
 
 use judge::cone_list::Block;
 use judge::original::{self as ask, Kind};
@@ -13,7 +13,7 @@ use judge::words::words;
 
 fn projected(kind: Kind, dual: bool, x: &[f64]) -> Vec<f64> {
     let mut x = x.to_vec();
-    ask::proj(kind, dual, &mut x, &mut [], 1e-12).unwrap();
+    ask::proj::<f64, ask::L>(kind, dual, &mut x, &mut [], 1e-12).unwrap();
     x
 }
 
@@ -21,7 +21,7 @@ fn projected(kind: Kind, dual: bool, x: &[f64]) -> Vec<f64> {
 fn semidefinite(x: &[f64], limit: usize) -> (Result<(), ()>, Vec<f64>, u64) {
     let mut x: Vec<Seen> = x.iter().map(|v| Seen(*v)).collect();
     watch(limit);
-    let outcome = ask::proj(
+    let outcome = ask::proj::<Seen, FloatGeneric<Seen>>(
         Kind::Semidefinite,
         false,
         &mut x,
@@ -181,7 +181,7 @@ fn groups() {
         (Kind::Semidefinite, [1.0; 3]),
     ] {
         let mut x = [3.0, 1.0, 2.0];
-        ask::product_group(kind, &mut x, smallest);
+        ask::product_group::<f64, ask::L>(kind, &mut x, smallest);
         assert_eq!(x, expected, "{kind:?}");
     }
 }
@@ -277,6 +277,30 @@ fn empty_packed_problem() {
         assert_eq!((answer.ending, answer.k), (dense.ending, dense.k));
         assert_eq!(words(&answer.work), words(&dense.work));
     }
+}
+
+/// Request (ix) of document 02: a reading of −10^200, and no objective. The residual's norm is 10^200 and b's Frobenius norm infinite. With the
+/// original's own norm both are infinite, and the criterion is NaN.
+#[test]
+fn a_very_large_reading() {
+    let problem = Problem {
+        a_type: MatType::General(1, 1),
+        c: vec![0.0],
+        a: vec![1.0],
+        b: vec![-1e200],
+        blocks: vec![Block {
+            kind: Kind::Nonnegative,
+            size: 1,
+        }],
+        ..empty(1e-12, 1)
+    };
+    let answer = problem.solve();
+    assert_eq!(answer.ending, Ending::Converged([0.0; 3]));
+    assert_eq!((answer.k, answer.large_norms), (1, 2));
+    assert!(problem.plain_form(&answer).verdict.is_ok());
+    let before = problem.solve_before();
+    assert!(matches!(before.ending, Ending::ExcessIter([pri, ..]) if pri.is_nan()));
+    assert_eq!(before.large_norms, 0);
 }
 
 #[test]

@@ -3,7 +3,7 @@ use mathlib.Core.Path.{_≡_, refl, sym}
 use mathlib.Core.Bool.{Bool, true, false, _&&_}
 use mathlib.Core.List.{List, [], _∷_, _++_}
 use lib.Ieee.{Float}
-use Rattle.rules.specs.Refusals.{isFinite, allFinite}
+use Rattle.rules.specs.Helpers.{isFinite, allFinite}
 
 pub finite-joined : (v w : List Float) → allFinite (v ++ w) ≡ allFinite v && allFinite w
 unfolding allFinite

@@ -8,7 +8,7 @@ use lib.Ieee.{Float, nan, inf, fin, lt}
 use lib.ListN.{length, drop, drop-of-length-le}
 use lib.Seq.{drop-cons}
 use Rattle.rules.specs.Arithmetic.{at}
-use Rattle.rules.specs.Refusals.{isFinite, allFinite}
+use Rattle.rules.specs.Helpers.{isFinite, allFinite}
 
 -- a number is finite if it lies between the infinities
 finite-between : (x : Float) → cond (lt x (inf false)) (lt (inf true) x) false ≡ isFinite x

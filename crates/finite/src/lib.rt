@@ -1,6 +1,6 @@
 // What is finite: neither infinite nor a NaN.
 ghost use mathlib.Core.Path.{_≡_};
-ghost use Rattle.rules.specs.Refusals.{isFinite, allFinite};
+ghost use Rattle.rules.specs.Helpers.{isFinite, allFinite};
 
 // Whether a number is finite.
 pub fn is_finite(x: f64) -> bool

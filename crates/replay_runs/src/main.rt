@@ -31,12 +31,14 @@ const STOPS: usize = 15;
 
 const BELOW_ZERO: usize = 16;
 
-const ZEROS: usize = 17;
+const LARGE_NORM: usize = 17;
 
-// Of those with a dense matrix, once more: 18 to 22, by where it is cut.
-const CUT: usize = 18;
+const ZEROS: usize = 18;
 
-const COUNTED: usize = 23;
+// Of those with a dense matrix, once more: 19 to 23, by where it is cut.
+const CUT: usize = 19;
+
+const COUNTED: usize = 24;
 
 // Reads a record and replays it: whether there was a whole one of a known kind.
 fn replay_one(
@@ -112,7 +114,7 @@ fn replay_cut(
 
 // Counts an answer of this number, with the differences that its problem meets, which the tag adds up.
 fn count(tally: &mut [u64; COUNTED], number: usize, tag: u64) -> bool {
-    if number < 1 || number > 12 || tag > 31 {
+    if number < 1 || number > 12 || tag > 63 {
         return false;
     }
     if tag / 4 % 2 == 1 {
@@ -123,7 +125,8 @@ fn count(tally: &mut [u64; COUNTED], number: usize, tag: u64) -> bool {
     count_if(tally, tag % 2 == 1, EPS_ZERO);
     count_if(tally, tag / 2 % 2 == 1, SWEEP_LIMIT);
     count_if(tally, tag / 8 % 2 == 1, STOPS);
-    count_if(tally, tag / 16 == 1, BELOW_ZERO)
+    count_if(tally, tag / 16 % 2 == 1, BELOW_ZERO);
+    count_if(tally, tag / 32 == 1, LARGE_NORM)
 }
 
 fn count_if(tally: &mut [u64; COUNTED], met: bool, at: usize) -> bool {
@@ -213,6 +216,12 @@ fn write_difference(number: usize) -> bool {
             )
         }
         17 => {
+            io::write_all(
+                STDOUT_FILENO,
+                b"of all these, a norm whose plain sum is infinite, of finite numbers",
+            )
+        }
+        18 => {
             io::write_all(
                 STDOUT_FILENO,
                 b"apart from these, a larger or smaller of -0 and +0 otherwise",

@@ -25,6 +25,9 @@ pub mod Enough
 pub mod Demands
 pub mod Outcome
 pub mod Vectors
+pub mod Signs
+pub mod LargeNorms
+pub mod NormTests
 pub mod Matrices
 pub mod Slices
 pub mod Blocks

@@ -1,6 +1,7 @@
 -- Document 01, "Port order", 1: the float helpers, for every f64. A float is `nan`, an infinity `inf s`, or `fin s m e`, the number m * 2 ^ e,
 -- negative where the sign s is true; zeros keep their sign, and there is one `nan`.
 use mathlib.Core.Bool.{Bool, true, false, cond, Bool·beq, _&&_, _||_}
+use mathlib.Core.List.{List, [], _∷_}
 use lib.Dec.{eqb}
 use lib.Ieee as Ieee
 use lib.Ieee.{Float, nan, inf, fin, binary64, ofBits, isNan}
@@ -46,3 +47,19 @@ one = ofBits binary64 0x3ff0_0000_0000_0000
 unfoldable pub reciprocal : Float → Float
 unfolding one Ieee.div
 reciprocal x = Ieee.div binary64 one x
+
+-- ---- what is infinite, and what is finite: neither infinite nor a NaN
+
+abbrev pub isInfinite : Float → Bool
+isInfinite nan = false
+isInfinite (inf s) = true
+isInfinite (fin s m e) = false
+
+abbrev pub isFinite : Float → Bool
+isFinite nan = false
+isFinite (inf s) = false
+isFinite (fin s m e) = true
+
+unfoldable pub allFinite : List Float → Bool
+allFinite [] = true
+allFinite (x ∷ xs) = isFinite x && allFinite xs

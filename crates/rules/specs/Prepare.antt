@@ -21,6 +21,7 @@ unfoldable pub columnIn : ℕ → List Float → List Float → List Float
 unfolding opped one
 columnIn rows v t = opped (column rows) one v (one ∷ []) +0 t
 
+-- request (ix) of document 02: "the Frobenius norm squares it again and may stay infinite"
 unfoldable pub frNorm : List Float → Float
 unfolding norm root add mul
 frNorm t = root binary64 (+0 +ᶠ norm t *ᶠ norm t)

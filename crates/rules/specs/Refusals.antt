@@ -5,7 +5,7 @@ use mathlib.Core.Path.{_≡_}
 use mathlib.Core.Bool.{Bool, true, false, not, cond, _&&_, _||_}
 use mathlib.Core.List.{List, [], _∷_}
 use lib.Dec.{ltb, eqb}
-use lib.Ieee.{Float, nan, inf, fin, lt}
+use lib.Ieee.{Float, lt}
 use lib.ListN.{length}
 use Rattle.rules.specs.declared.Answer.{Answer}
 use Rattle.rules.specs.declared.Ending.{Ending}
@@ -16,6 +16,7 @@ use Rattle.rules.specs.declared.Storage.the-variants.{Dense, Packed}
 use Rattle.rules.specs.declared.Refusal.{Refusal}
 use Rattle.rules.specs.declared.Refusal.the-variants.{Accepted, Refused}
 use Rattle.rules.specs.Limits.{limit, mostWords, mostSteps}
+use Rattle.rules.specs.Helpers.{isFinite, allFinite}
 use Rattle.rules.specs.Arithmetic.{+0}
 use Rattle.rules.specs.Matrices.{storedLength}
 use Rattle.rules.specs.Blocks.{isBadCone, blocksOf}
@@ -36,15 +37,6 @@ readProblem p =
 -- the problem with the plain words of its list
 abbrev pub plainProblem : Problem → Problem
 plainProblem p = withWords (plainWords (p .words)) p
-
-abbrev pub isFinite : Float → Bool
-isFinite nan = false
-isFinite (inf s) = false
-isFinite (fin s m e) = true
-
-unfoldable pub allFinite : List Float → Bool
-allFinite [] = true
-allFinite (x ∷ xs) = isFinite x && allFinite xs
 
 -- an eps that is not finite or is below zero
 abbrev pub badEps : Float → Bool

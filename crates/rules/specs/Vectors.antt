@@ -1,24 +1,44 @@
 -- Document 01, "Port order", 2: the vector routines of floatgeneric.rs. A buffer is a list of floats.
 use Prim.Native.Nat.{ℕ, _+_, _-_, _*_, _/_}
-use mathlib.Core.Bool.{Bool, cond}
+use mathlib.Core.Bool.{Bool, false, cond, _&&_}
 use mathlib.Core.List.{List}
 use lib.Dec.{eqb}
-use lib.Ieee.{Float, binary64, add, mul}
+use lib.IntN.{pos, negsuc}
+use lib.Ieee.{Float, fin, binary64, add, mul}
 use lib.ListN.{length}
-use Rattle.rules.specs.Helpers.{magnitude}
+use Rattle.rules.specs.Helpers.{magnitude, isInfinite, allFinite}
 use Rattle.rules.specs.Root.{root}
 use Rattle.rules.specs.Arithmetic.{_+ᶠ_, _*ᶠ_, +0, at, sumTo, sumFrom, each}
 
 abbrev pub sameLength : List Float → List Float → Bool
 sameLength x y = eqb (length x) (length y)
 
-unfoldable pub norm : List Float → Float
-unfolding sumFrom root mul
-norm x = root binary64 (sumTo (length x) (λ k. at x k *ᶠ at x k))
-
 unfoldable pub scaled : Float → List Float → List Float
 unfolding each mul
 scaled alpha x = each (λ k v. alpha *ᶠ v) x
+
+-- the plain sum of squares, and the plain norm
+abbrev pub plainSum : List Float → Float
+plainSum x = sumTo (length x) (λ k. at x k *ᶠ at x k)
+
+abbrev pub plainNorm : List Float → Float
+plainNorm x = root binary64 (plainSum x)
+
+-- 2 ^ 600, and 2 ^ -600 (`negsuc k` is the whole number -(k + 1))
+abbrev pub two^600 : Float
+two^600 = fin false 1 (pos 600)
+
+abbrev pub two^−600 : Float
+two^−600 = fin false 1 (negsuc 599)
+
+-- Request (ix) of document 02: "if the plain sum is infinite while all entries are finite, it multiplies entries by 2^−600, takes the plain norm and
+-- multiplies by 2^600, each rounding as usual; it may still be infinite. Otherwise it is unchanged." A sum of squares is never −∞ (`plain-infinite`, proofs/LargeNorms.antt).
+abbrev pub scaledNorm : List Float → Float
+scaledNorm x = plainNorm (scaled two^−600 x) *ᶠ two^600
+
+unfoldable pub norm : List Float → Float
+unfolding sumFrom root mul scaled allFinite
+norm x = cond (isInfinite (plainSum x) && allFinite x) (scaledNorm x) (plainNorm x)
 
 unfoldable pub added : Float → List Float → List Float → List Float
 unfolding each add mul

@@ -1,10 +1,10 @@
--- Document 01, "Worked by hand": the cases marked P, as rows of one table, with the cone word that 01 names and requests (ii), (iv), (vii) and (viii) of document 02. `proofs/WorkedByHand.antt` proves the one claim that every row holds.
+-- Document 01, "Worked by hand": the cases marked P, as rows of one table, with the cone word that 01 names and requests (ii), (iv), (vii), (viii) and (ix) of document 02. `proofs/WorkedByHand.antt` proves the one claim that every row holds.
 use Prim.Native.Nat.{ℕ, zero, suc, _+_}
 use mathlib.Core.Path.{_≡_}
 use mathlib.Core.List.{List, [], _∷_}
 use lib.IntN.{pos, negsuc}
-use mathlib.Core.Bool.{false}
-use lib.ListN.{replicate}
+use mathlib.Core.Bool.{true, false}
+use lib.ListN.{replicate, take}
 use lib.Ieee.{Float, nan, inf, fin, binary64, ofBits, ofInt, neg}
 use Rattle.rules.specs.declared.MatType.{MatType}
 use Rattle.rules.specs.declared.MatType.the-variants.{General, SymPack}
@@ -17,6 +17,7 @@ use Rattle.rules.specs.declared.Ending.{Ending}
 use Rattle.rules.specs.declared.Ending.the-variants.{Converged, ExcessIterUnscaled, BadParam, TooLarge, BadCone, WorkShortage}
 use Rattle.rules.specs.Arithmetic.{+0}
 use Rattle.rules.specs.Helpers.{larger, smaller}
+use Rattle.rules.specs.Vectors.{norm}
 use Rattle.rules.specs.Matrices.{opped, transOpped, absaddedRows, absaddedCols}
 use Rattle.rules.specs.Projections.{projSOC}
 use Rattle.rules.specs.Blocks.{readWord}
@@ -24,6 +25,7 @@ use Rattle.rules.specs.Groups.{plainWords}
 use Rattle.rules.specs.Parameters.{oneOver, paramOf, withEpsZero, defaults}
 use Rattle.rules.specs.Outcome.{turned-away, onPaper}
 use Rattle.rules.specs.Problem.{Problem}
+use Rattle.rules.specs.Prepare.{frNorm}
 use Rattle.rules.specs.Refusals.{tooLarge, solved, turnedAway}
 use Rattle.rules.specs.Root.{root}
 
@@ -110,6 +112,22 @@ abbrev nested : ℕ → List ℕ
 nested zero = []
 nested (suc k) = groupOf k ∷ nested k
 
+-- 10^200, rounded once, the largest number, and n times 2^e, for an odd n
+abbrev 10^200 : Float
+10^200 = f64 0x6974_e718_d7d7_625a
+
+abbrev largest : Float
+largest = f64 0x7fef_ffff_ffff_ffff
+
+infix 80 _times-2^_
+abbrev _times-2^_ : ℕ → ℕ → Float
+n times-2^ e = fin false n (pos e)
+
+-- minimise 0 where x ≤ −10^200, by default
+abbrev unmet : Problem
+unmet =
+    record { m = 1; n = 1; storage = Dense; c = +0 ∷ []; a = whole 1 ∷ []; b = neg 10^200 ∷ []; words = 0x2001 ∷ []; par = defaults 1_000_000 64 }
+
 -- places that held 5 before
 abbrev held : ℕ → List Float
 held k = replicate k (whole 5)
@@ -162,4 +180,17 @@ table =
     ∷ (solved (grouped (groupOf 1 ∷ groupOf 1 ∷ 0 ∷ [])) (held 6) [] comes-to turnedAway BadCone (held 6) [])
     ∷ (solved (grouped (replicate 128 (groupOf 0))) (held 6) [] .answer comes-to answered (Converged +0 +0 +0) 1 0)
     ∷ (solved (grouped (replicate 129 (groupOf 0))) (held 6) [] comes-to turnedAway TooLarge (held 6) [])
+    -- nor these, but request (ix): norms of very large numbers, the last two of numbers that are not all finite; a block that has such a norm; the Frobenius norm; and what
+    -- a run can come to by it, with x = 0 (docs/FINDINGS.md, 8)
+    ∷ (norm (10^200 ∷ []) comes-to 10^200)
+    ∷ (norm (pair (3 times-2^ 600) (neg (1 times-2^ 602))) comes-to 5 times-2^ 600)
+    ∷ (norm (replicate 4 (1 times-2^ 511)) comes-to 1 times-2^ 512)
+    ∷ (norm (largest ∷ []) comes-to largest)
+    ∷ (norm (pair largest largest) comes-to inf false)
+    ∷ (norm (pair 10^200 (inf true)) comes-to inf false)
+    ∷ (norm (pair 10^200 nan) comes-to nan)
+    ∷ (projSOC (triple +0 (3 times-2^ 601) (1 times-2^ 603)) comes-to triple (5 times-2^ 600) (3 times-2^ 600) (1 times-2^ 602))
+    ∷ (frNorm (10^200 ∷ []) comes-to inf false)
+    ∷ (solved unmet (held 22) [] .answer comes-to answered (Converged +0 +0 +0) 1 0)
+    ∷ (take 1 (solved unmet (held 22) [] .work) comes-to (+0 ∷ []))
     ∷ []

@@ -3,6 +3,7 @@
 //! after another.
 
 mod grouped;
+mod large_norms;
 
 use std::collections::BTreeMap;
 use std::fs;
@@ -40,6 +41,8 @@ struct Cards {
     raised: Vec<Card>,
     /// With a larger or smaller of −0 and +0.
     unlike_zeros: usize,
+    /// With a norm of finite numbers whose plain sum is infinite.
+    large_norms: usize,
 }
 
 /// What is counted, in the order in which it is printed.
@@ -78,6 +81,7 @@ impl Cards {
             Told::Ended(problem, answer) => {
                 same_over_plain(problem, answer);
                 self.unlike_zeros += usize::from(answer.unlike_zeros > 0);
+                self.large_norms += usize::from(answer.large_norms > 0);
                 answer.ending.name()
             }
         };
@@ -175,7 +179,7 @@ fn at_the_limits(all: &mut Cards, random: &mut Random) {
         let mut p = of_most(random, Family::Solvable, 8);
         (p.eps_acc, p.eps_inf) = (1e300, 1e300);
         p.max_iter = 100;
-        if p.problem().solve().k < 100 {
+        if p.problem().solve_before().k < 100 {
             p.max_iter = 1_000_000;
             all.good(&p);
             met += 1;
@@ -194,7 +198,7 @@ fn rare(all: &mut Cards, random: &mut Random) {
         let mut met = 0;
         while met < 40 {
             let p = of_most(random, family, 8);
-            if p.raised().problem().solve().ending.name() == wanted {
+            if p.raised().problem().solve_before().ending.name() == wanted {
                 all.good(&p);
                 met += 1;
             }
@@ -521,6 +525,7 @@ fn drawn(seed: u64, all: &mut Cards) {
     }
     longer_lists(all, &mut random);
     grouped::all(all, &mut random);
+    large_norms::all(all, &mut random);
 }
 
 /// Writes standard input and output of the program in `folder`; the cards that tell a story are in
@@ -548,6 +553,10 @@ pub fn make(seed: u64, folder: &Path, stories: &Path) -> Result<()> {
         println!("  {:6} {name}", all.counts.get(name).unwrap_or(&0));
     }
     println!("{} with a larger or smaller of -0 and +0", all.unlike_zeros);
+    println!(
+        "{} with a norm whose plain sum is infinite, of finite numbers",
+        all.large_norms
+    );
     Ok(())
 }
 

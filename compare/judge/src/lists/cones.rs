@@ -8,8 +8,10 @@ use totsu_core::{FloatGeneric, MatOp, MatType};
 
 use crate::cone_list::{work_len, Block, ConeList, Progress};
 use crate::draw::{number, numbers, Sort, SORTS, SPECIAL};
+use crate::lists::large_norms::{ties, BELOW, EDGE};
 use crate::original::{self as ask, Kind, KINDS};
 use crate::random::Random;
+use crate::ruled_norm::{self, power_of_2, Algebra, RuledNorm};
 use crate::seen::{sight, watch, Number, Seen, Sight};
 use crate::words::{words, write_list};
 
@@ -47,6 +49,8 @@ struct Records {
     other_zeros: usize,
     /// Drawn with a signalling NaN on which the original's larger or smaller is not the rule's.
     signalling: usize,
+    /// With a norm of finite numbers whose plain sum is infinite.
+    large_norms: std::collections::BTreeMap<u64, usize>,
 }
 
 impl Records {
@@ -58,6 +62,10 @@ impl Records {
             self.words.extend(*part);
         }
         *self.counts.entry(op).or_default() += 1;
+    }
+
+    fn count_large(&mut self, op: u64, seen: &Sight) {
+        *self.large_norms.entry(op).or_default() += usize::from(seen.large_norms > 0);
     }
 }
 
@@ -81,18 +89,14 @@ struct Outcome {
     work: Vec<f64>,
 }
 
-fn project<F: Number>(blocks: &[Block], setting: Setting, x: &[f64]) -> Outcome {
+fn project<F: Number, L: Algebra<F>>(blocks: &[Block], setting: Setting, x: &[f64]) -> Outcome {
     let plain = |xs: Vec<F>| xs.into_iter().map(F::plain).collect();
     let mut x: Vec<F> = x.iter().map(|v| F::of(*v)).collect();
     let mut work = vec![F::of(setting.fill); work_len(blocks)];
     let mut progress = Progress::default();
-    let answer = ConeList {
-        blocks,
-        work: &mut work,
-        eps_zero: F::of(setting.eps_zero),
-        progress: &mut progress,
-    }
-    .proj(setting.dual, &mut x);
+    let eps_zero = F::of(setting.eps_zero);
+    let mut list = ConeList::<F, L>::new(blocks, &mut work, eps_zero, &mut progress);
+    let answer = Cone::<L>::proj(&mut list, setting.dual, &mut x);
     assert_eq!(answer.is_err(), progress.failed.is_some());
     Outcome {
         failed: progress.failed,
@@ -131,23 +135,27 @@ fn asked<T>(
     }
 }
 
-/// The watched run, and the rotations it made. If no limit cut it off, a run over plain f64 ends
-/// as well, and must agree where the machine has the standard's zeros.
+/// The watched run, and what was seen. If no limit cut it off, a run over plain f64 ends
+/// as well, and must agree where the machine has the standard's zeros: the original's own where no norm was large.
 fn projected(
     records: &mut Records,
     blocks: &[Block],
     setting: Setting,
     x: &mut [f64],
-) -> (Outcome, u64) {
+) -> (Outcome, Sight) {
     let (outcome, seen) = asked(records, setting.sweep_limit, x, |x| {
-        project::<Seen>(blocks, setting, x)
+        project::<Seen, RuledNorm<Seen>>(blocks, setting, x)
     });
     if outcome.failed.is_none() && seen.other_zeros == 0 {
-        let plain = project::<f64>(blocks, setting, x);
+        let plain = if seen.large_norms == 0 {
+            project::<f64, FloatGeneric<f64>>(blocks, setting, x)
+        } else {
+            project::<f64, RuledNorm<f64>>(blocks, setting, x)
+        };
         assert_eq!(words(&plain.x), words(&outcome.x));
         assert_eq!(words(&plain.work), words(&outcome.work));
     }
-    (outcome, seen.rotations)
+    (outcome, seen)
 }
 
 // One block that needs no cone work.
@@ -167,8 +175,9 @@ fn block(records: &mut Records, kind: Kind, dual: bool, mut x: Vec<f64>) {
         eps_zero: 0.0,
         fill: 0.0,
     };
-    let (outcome, rotations) = projected(records, &[Block { kind, size }], setting, &mut x);
-    assert_eq!((outcome.failed, rotations), (None, 0));
+    let (outcome, seen) = projected(records, &[Block { kind, size }], setting, &mut x);
+    assert_eq!((outcome.failed, seen.rotations), (None, 0));
+    records.count_large(op, &seen);
     records.push(
         op,
         &[
@@ -210,10 +219,15 @@ fn around_the_boundary(records: &mut Records, random: &mut Random, size: usize, 
     let norm = ask::norm(&tail);
     // The norm of no number, or of zeros, has no neighbour below.
     let norm = if norm > 0.0 { norm } else { 1.0 };
+    with_heads(records, random, &tail, norm);
+}
+
+/// A tail with each head that its norm gives, and the same points turned.
+fn with_heads(records: &mut Records, random: &mut Random, tail: &[f64], norm: f64) {
     for head in heads(norm) {
         let dual = random.one_in(2);
         let mut x = vec![head];
-        x.extend(&tail);
+        x.extend(tail);
         block(records, Kind::SecondOrder, dual, x.clone());
         // The same point for the rotated cone, turned.
         let (r, s) = (x[0], x[1]);
@@ -235,6 +249,50 @@ fn special_points(records: &mut Records) {
         for a in fewer {
             for b in fewer {
                 block(records, kind, false, vec![a, b]);
+            }
+        }
+    }
+}
+
+/// Tails of finite numbers whose plain sum is infinite, and such at the edge (request (ix) of document 02).
+fn large_norms(records: &mut Records, random: &mut Random) {
+    let unit = power_of_2(600);
+    let huge: Vec<f64> = numbers(random, Sort::Ordinary, 5)
+        .iter()
+        .map(|x| x * power_of_2(900))
+        .collect();
+    for tail in [
+        vec![3.0 * unit, -4.0 * unit],
+        huge,
+        vec![power_of_2(511); 4],
+        vec![BELOW, 1e-200],
+        vec![EDGE, power_of_2(-474)],
+    ] {
+        with_heads(records, random, &tail, ruled_norm::norm(&tail));
+    }
+    // The norm stays infinite, or an entry is not finite.
+    let max = f64::MAX;
+    for kind in [Kind::SecondOrder, Kind::Rotated] {
+        for x in [
+            [max, max, max],
+            [-max, max, -max],
+            [0.0, max, max],
+            [1.0, f64::INFINITY, 1e200],
+            [1e300, 1e200, f64::NAN],
+        ] {
+            block(records, kind, false, x.to_vec());
+        }
+    }
+    for _ in 0..10 {
+        product(records, random, Sort::Huge);
+    }
+    // A rotated point with two equal numbers before its tail is turned to one with a 0 there.
+    for tail in &ties()[..3] {
+        for head in [0.0, 1e153] {
+            for (kind, count) in [(Kind::SecondOrder, 1), (Kind::Rotated, 2)] {
+                let mut x = vec![head; count];
+                x.extend(tail);
+                block(records, kind, false, x);
             }
         }
     }
@@ -375,7 +433,7 @@ fn semidefinite(records: &mut Records, setting: Setting, mut x: Vec<f64>) -> boo
     let size = x.len();
     let order = ask::order(size).expect("a triangular size");
     let kind = Kind::Semidefinite;
-    let (outcome, rotations) = projected(records, &[Block { kind, size }], setting, &mut x);
+    let (outcome, seen) = projected(records, &[Block { kind, size }], setting, &mut x);
     let succeeded = outcome.failed.is_none();
     records.push(
         SEMIDEFINITE,
@@ -383,7 +441,7 @@ fn semidefinite(records: &mut Records, setting: Setting, mut x: Vec<f64>) -> boo
             &[order as u64, size as u64, setting.sweep_limit as u64],
             &patterns(&[setting.eps_zero, setting.fill]),
             &patterns(&x),
-            &[u64::from(succeeded), rotations],
+            &[u64::from(succeeded), seen.rotations],
             &words(&outcome.x),
             &words(&outcome.work),
         ],
@@ -404,7 +462,9 @@ fn sweeps(setting: Setting, x: &[f64]) -> Option<usize> {
             sweep_limit: *sweep_limit,
             ..setting
         };
-        project::<Seen>(&[block], setting, x).failed.is_none()
+        project::<Seen, RuledNorm<Seen>>(&[block], setting, x)
+            .failed
+            .is_none()
     })
 }
 
@@ -477,7 +537,8 @@ fn product(records: &mut Records, random: &mut Random, sort: Sort) {
         eps_zero: eps_zero(random),
         fill: fill(random),
     };
-    let (outcome, rotations) = projected(records, &blocks, setting, &mut x);
+    let (outcome, seen) = projected(records, &blocks, setting, &mut x);
+    records.count_large(PRODUCT, &seen);
     let failed = outcome.failed.map_or(0, |i| i as u64 + 1);
     records.push(
         PRODUCT,
@@ -487,7 +548,7 @@ fn product(records: &mut Records, random: &mut Random, sort: Sort) {
             &[blocks.len() as u64, x.len() as u64],
             &list_words(&blocks),
             &patterns(&x),
-            &[failed, rotations],
+            &[failed, seen.rotations],
             &words(&outcome.x),
             &words(&outcome.work),
         ],
@@ -511,13 +572,10 @@ impl Cone<FloatGeneric<Seen>> for Grouping<'_> {
     fn product_group<G: Fn(&mut [Seen]) + Copy>(&self, _dp_tau: &mut [Seen], group: G) {
         if !self.done.replace(true) {
             watch(MOST_SWEEPS);
-            let list = ConeList {
-                blocks: self.blocks,
-                work: &mut [],
-                eps_zero: Seen(0.0),
-                progress: &mut Progress::default(),
-            };
-            list.product_group(&mut self.xs.borrow_mut(), group);
+            let mut progress = Progress::default();
+            let list: ConeList<Seen, FloatGeneric<Seen>> =
+                ConeList::new(self.blocks, &mut [], Seen(0.0), &mut progress);
+            Cone::<FloatGeneric<Seen>>::product_group(&list, &mut self.xs.borrow_mut(), group);
         }
     }
 }
@@ -595,6 +653,7 @@ fn records(seed: u64) -> Records {
             grouping(&mut all, &mut random, sort);
         }
     }
+    large_norms(&mut all, &mut random);
     all
 }
 
@@ -605,14 +664,21 @@ pub fn make(seed: u64, path: &Path) -> std::io::Result<()> {
     println!("cones: {total} records, {} bytes", 8 + 8 * all.words.len());
     for (code, name) in NAMES {
         print!("  {:6} {code:2} {name}", all.counts[&code]);
-        match all.failed.get(&code) {
-            Some(failed) => println!(", {failed} of them fail"),
-            None => println!(),
+        if let Some(failed) = all.failed.get(&code) {
+            print!(", {failed} of them fail");
         }
+        if let Some(large @ 1..) = all.large_norms.get(&code) {
+            print!(", {large} of them with a large norm");
+        }
+        println!();
     }
     println!(
         "{} points with -0 beside +0 in a larger or smaller, a listed difference; this machine has another zero in {}",
         all.unlike_zeros, all.other_zeros
+    );
+    println!(
+        "{} points with a norm of finite numbers whose plain sum is infinite, a listed difference",
+        all.large_norms.values().sum::<usize>()
     );
     println!("left out of cones:");
     println!(
@@ -658,7 +724,7 @@ mod tests {
             size: 3,
         };
         watch(1);
-        let outcome = project::<Seen>(&[block], setting, &[0.0, 1.0, 0.0]);
+        let outcome = project::<Seen, RuledNorm<Seen>>(&[block], setting, &[0.0, 1.0, 0.0]);
         assert_eq!(outcome.failed, Some(0));
         assert_eq!(sight().rotations, 1);
         assert_eq!(outcome.x[1], 0.0);

@@ -57,7 +57,7 @@ fn failing(random: &mut Random, packed: bool, least: usize) -> (Handed, usize) {
             small(random, Family::FewSweeps)
         };
         let p = p.raised();
-        match p.problem().solve().ending {
+        match p.problem().solve_before().ending {
             Ending::ConeFailure(block) if block >= least && p.words.len() <= 12 => {
                 return (p, block)
             }
@@ -79,6 +79,9 @@ pub fn failing_in_groups(random: &mut Random, packed: bool, least: usize, depth:
     list.extend(wrapped(items(&p.words[from..to]), depth));
     list.extend(in_groups(random, &p.words[to..], DEEPEST));
     p.words = written(&list);
-    assert_eq!(p.problem().solve().ending, Ending::ConeFailure(block));
+    assert_eq!(
+        p.problem().solve_before().ending,
+        Ending::ConeFailure(block)
+    );
     p
 }

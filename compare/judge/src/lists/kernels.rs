@@ -5,8 +5,10 @@ use std::path::Path;
 use totsu_core::MatType;
 
 use crate::draw::{factor, number, numbers, Sort, SORTS, SPECIAL};
+use crate::lists::large_norms::{self, EDGE, SIZES};
 use crate::original as ask;
 use crate::random::Random;
+use crate::ruled_norm::{self, is_large, power_of_2};
 use crate::standard::{maximum_number, minimum_number, unlike_zeros};
 use crate::words::{signalling, word, words, write_list};
 
@@ -99,6 +101,8 @@ struct Records {
     other_larger: usize,
     other_smaller: usize,
     signalling_pairs: usize,
+    /// Norms of finite numbers whose plain sum is infinite.
+    large_norms: usize,
 }
 
 impl Records {
@@ -120,9 +124,21 @@ fn sizes_of(typ: MatType) -> [usize; 3] {
     [usize::from(matches!(typ, MatType::SymPack(_))), rows, cols]
 }
 
+/// By the original, or by the request's norm where the plain sum of finite numbers is infinite.
+fn norm(records: &mut Records, x: &[f64]) {
+    let large = is_large(x);
+    let answer = if large {
+        ruled_norm::norm(x)
+    } else {
+        ask::norm(x)
+    };
+    records.large_norms += usize::from(large);
+    records.push(NORM, &[x.len()], &[x], &[answer]);
+}
+
 fn vectors(records: &mut Records, random: &mut Random, n: usize, sort: Sort) {
     let x = numbers(random, sort, n);
-    records.push(NORM, &[n], &[&x], &[ask::norm(&x)]);
+    norm(records, &x);
 
     let alpha = factor(random);
     records.push(SCALE, &[n], &[&[alpha], &x], &ask::scale(alpha, x.clone()));
@@ -319,6 +335,72 @@ fn helpers(records: &mut Records, random: &mut Random) {
     }
 }
 
+/// The numbers in this order and in the other.
+fn both_ways(records: &mut Records, mut x: Vec<f64>) {
+    norm(records, &x);
+    x.reverse();
+    norm(records, &x);
+}
+
+/// Norms of finite numbers whose plain sum is infinite, and such at the edges (request (ix) of document 02).
+fn large_norms(records: &mut Records, random: &mut Random) {
+    let after = f64::from_bits(EDGE.to_bits() + 1);
+    for x in SIZES.into_iter().chain([after, power_of_2(511)]) {
+        norm(records, &[x]);
+        norm(records, &[-x]);
+    }
+    for x in large_norms::vectors() {
+        norm(records, &x);
+    }
+    for exponent in [509, 511, 600, 700, 900, 1019, 1020] {
+        norm(records, &[3.0, 4.0].map(|x| x * power_of_2(exponent)));
+        norm(records, &[-5.0, 12.0].map(|x| x * power_of_2(exponent)));
+    }
+    // The last addition makes the sum infinite, or there is one square fewer.
+    for (exponent, count) in [(511, 4), (510, 16), (509, 64)] {
+        let x = vec![power_of_2(exponent); count];
+        norm(records, &x);
+        norm(records, &x[1..]);
+    }
+    // Not all entries are finite.
+    for x in [f64::INFINITY, f64::NEG_INFINITY, f64::NAN] {
+        both_ways(records, vec![x, 1e200, -1e300]);
+        both_ways(records, vec![1e300, x, f64::INFINITY]);
+    }
+    // Tiny numbers that 2^−600 leaves normal, makes subnormal, rounds and makes 0.
+    let third = 1.0 / 3.0;
+    for tiny in [
+        power_of_2(-421),
+        power_of_2(-422),
+        power_of_2(-422) * third,
+        power_of_2(-470) * third,
+        power_of_2(-474),
+        power_of_2(-475),
+        f64::from_bits(1),
+    ] {
+        both_ways(records, vec![1e200, -tiny]);
+    }
+    for n in LENGTHS.into_iter().filter(|n| *n > 0) {
+        norm(records, &numbers(random, Sort::Huge, n));
+        // About the edge.
+        let mut x = numbers(random, Sort::Ordinary, n);
+        x.iter_mut().for_each(|x| *x *= power_of_2(501));
+        norm(records, &x);
+        x = numbers(random, Sort::Mixed, n);
+        x.iter_mut()
+            .filter(|x| !x.is_finite())
+            .for_each(|x| *x = 1e160);
+        norm(records, &x);
+    }
+    for mut x in large_norms::ties() {
+        norm(records, &x);
+        x.iter_mut()
+            .filter(|_| random.one_in(2))
+            .for_each(|x| *x = -*x);
+        norm(records, &x);
+    }
+}
+
 fn records(seed: u64) -> Records {
     let mut random = Random::new(seed);
     let mut all = Records::default();
@@ -353,6 +435,7 @@ fn records(seed: u64) -> Records {
         transforms(&mut all, &mut random, typ, Sort::Ordinary);
         matrix_sums(&mut all, &mut random, typ, Sort::Ordinary);
     }
+    large_norms(&mut all, &mut random);
     all
 }
 
@@ -370,6 +453,10 @@ pub fn make(seed: u64, path: &Path) -> std::io::Result<()> {
     println!(
         "{} pairs of -0 and +0, a listed difference; this machine has another larger of {}, another smaller of {}",
         all.zero_pairs, all.other_larger, all.other_smaller
+    );
+    println!(
+        "{} norms of finite numbers whose plain sum is infinite, a listed difference",
+        all.large_norms
     );
     println!("left out of kernels:");
     println!(

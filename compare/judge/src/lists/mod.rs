@@ -4,6 +4,7 @@ pub mod cards;
 pub mod cones;
 mod grouped;
 pub mod kernels;
+mod large_norms;
 pub mod roots;
 pub mod runs;
 

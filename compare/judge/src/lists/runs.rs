@@ -2,6 +2,7 @@
 //! original answers. The layout of each record is in compare/README.md.
 
 mod grouped;
+mod large_norms;
 mod refusals;
 mod term;
 
@@ -23,6 +24,7 @@ const SWEEP_LIMIT: u64 = 2;
 const ZEROS: u64 = 4;
 const STOPS: u64 = 8;
 const BELOW_ZERO: u64 = 16;
+const LARGE_NORM: u64 = 32;
 
 /// What the answer's first word is, from 1 to 6 for refusals.
 const NAMES: [(u64, &str); 12] = [
@@ -40,12 +42,16 @@ const NAMES: [(u64, &str); 12] = [
     (12, "ConeFailure"),
 ];
 
-const DIFFERENCES: [(u64, &str); 5] = [
+const DIFFERENCES: [(u64, &str); 6] = [
     (EPS_ZERO, "eps_zero of -0"),
     (SWEEP_LIMIT, "a sweep limit reached"),
     (ZEROS, "a larger or smaller of -0 and +0"),
     (STOPS, "an empty matrix on which the original stops"),
     (BELOW_ZERO, "refused for a tolerance below zero alone"),
+    (
+        LARGE_NORM,
+        "a norm whose plain sum is infinite, of finite numbers",
+    ),
 ];
 
 #[derive(Default)]
@@ -87,12 +93,12 @@ fn carried(ending: &Ending) -> [u64; 3] {
     all
 }
 
-/// The watched run must have changed nothing.
+/// The watching must have changed nothing, nor the request's norm where no norm was large.
 pub fn same_over_plain(p: &Problem, answer: &Answer) {
     if !answer.has_plain_form() {
         return;
     }
-    let plain = p.run::<f64>();
+    let plain = p.plain_form(answer);
     let verdict = match answer.ending {
         Ending::Converged(_) => None,
         Ending::Unbounded(_) => Some("Unbounded"),
@@ -179,6 +185,9 @@ impl Records {
         if answer.unlike_zeros > 0 {
             tag += ZEROS;
         }
+        if answer.large_norms > 0 {
+            tag += LARGE_NORM;
+        }
         let number = ending_number(&answer.ending);
         let mut told = vec![number, answer.k, answer.q];
         told.extend(carried(&answer.ending));
@@ -263,7 +272,7 @@ fn at_the_limits(all: &mut Records, random: &mut Random) {
         let mut p = small(random, Family::Solvable);
         (p.eps_acc, p.eps_inf) = (1e300, 1e300);
         p.max_iter = 100;
-        if p.problem().solve().k < 100 {
+        if p.problem().solve_before().k < 100 {
             p.max_iter = 1_000_000;
             all.take(&p);
             met += 1;
@@ -349,6 +358,7 @@ fn records(seed: u64) -> Records {
     }
     term::all(&mut all, &mut random);
     grouped::all(&mut all, &mut random);
+    large_norms::all(&mut all, &mut random);
     all
 }
 
@@ -386,7 +396,7 @@ mod tests {
         let room = work_places(LIMIT + 16, LIMIT + 16) as u64 + 512;
         let (mut at, mut met) = (0, 0);
         while at < all.words.len() {
-            assert!(all.words[at] < 32);
+            assert!(all.words[at] < 64);
             assert!(all.words[at + 1] <= room);
             assert!(all.words[at + 10] <= MOST_WORDS as u64 + 8);
             at += 2 + all.words[at + 1] as usize;
@@ -410,6 +420,20 @@ mod tests {
         all.take(&p);
         assert_eq!(all.words[..2], [0, asked(&p).len() as u64 + 8]);
         assert_eq!(all.words[all.words.len() - 8..], [3, 0, 0, 0, 0, 0, 0, 0]);
+    }
+
+    /// The finding of docs/FINDINGS.md, 8, meets the difference, and the same with a reading whose square is finite does not.
+    #[test]
+    fn a_large_norm_is_told() {
+        use crate::lists::large_norms::{finding, BELOW};
+        for (reading, tag, answer) in [(-1e200, LARGE_NORM, [7, 1]), (-BELOW, 0, [9, 1000])] {
+            let mut all = Records::default();
+            let mut p = finding();
+            p.b.given[0] = reading;
+            all.take(&p);
+            assert_eq!(all.words[0], tag);
+            assert_eq!(all.words[2 + asked(&p).len()..][..2], answer);
+        }
     }
 
     /// The difference is met where nothing else speaks against the problem.

@@ -1,15 +1,23 @@
-//! The stored lists of runs and of cards, read back.
+//! The stored lists of kernels, cones, runs and cards, read back.
+
+// Each test reads some of them.
+#![allow(dead_code)]
 
 use std::fs;
 
 use judge::card::{self, Card};
+use judge::cone_list::Block;
 use judge::handed::{Handed, Vector};
+use judge::original::Kind;
 
 pub struct Run {
     pub handed: Handed,
     /// The answer's number, and the failed block of a ConeFailure.
     pub number: u64,
     pub block: u64,
+    /// The listed differences that it meets, and the whole answer.
+    pub tag: u64,
+    pub answer: Vec<u64>,
 }
 
 struct Words<'a> {
@@ -45,7 +53,7 @@ impl Words<'_> {
     }
 
     /// A record after its first two words.
-    fn run(&mut self) -> Run {
+    fn run(&mut self, tag: u64) -> Run {
         let (max_iter, sweep_limit) = (self.take(), self.take());
         let (eps_acc, eps_inf, eps_zero) = (self.number(), self.number(), self.number());
         let (storage, n, m, count) = (self.take(), self.size(), self.size(), self.size());
@@ -68,11 +76,13 @@ impl Words<'_> {
             cone_work: self.size(),
             fill: self.number(),
         };
-        let answer = self.take_all(4);
+        let answer = self.left.to_vec();
         Run {
             handed,
             number: answer[0],
             block: answer[3],
+            tag,
+            answer,
         }
     }
 }
@@ -87,28 +97,124 @@ fn word(bytes: &[u8]) -> u64 {
 }
 
 pub fn runs() -> Vec<Run> {
-    let words: Vec<u64> = stored("replay_runs/stdin").chunks(8).map(word).collect();
+    let records = records("replay_runs/stdin").into_iter();
+    records
+        .map(|(tag, record)| Words { left: &record }.run(tag))
+        .collect()
+}
+
+/// The first word of each record, and the words after its length.
+fn records(file: &str) -> Vec<(u64, Vec<u64>)> {
+    let words: Vec<u64> = stored(file).chunks(8).map(word).collect();
     let (mut left, mut all) = (&words[1..], Vec::new());
     while !left.is_empty() {
         let (record, after) = left[2..].split_at(left[1] as usize);
-        all.push(Words { left: record }.run());
+        all.push((left[0], record.to_vec()));
         left = after;
     }
     assert_eq!(all.len() as u64, words[0]);
     all
 }
 
-/// Each card that is one, and the first line of its answer.
+fn numbers(words: &[u64]) -> Vec<f64> {
+    words.iter().map(|word| f64::from_bits(*word)).collect()
+}
+
+/// Each norm of the list of kernels: the numbers, and the answer.
+pub fn norms() -> Vec<(Vec<f64>, u64)> {
+    let norms = records("replay_kernels/stdin").into_iter();
+    let norms = norms.filter(|(operation, _)| *operation == 1);
+    norms
+        .map(|(_, record)| match &record[..] {
+            [_, x @ .., norm] => (numbers(x), *norm),
+            _ => panic!("a norm"),
+        })
+        .collect()
+}
+
+/// A second-order or rotated block or a product of the list of cones.
+pub struct Projected {
+    pub blocks: Vec<Block>,
+    pub dual: bool,
+    pub sweep_limit: usize,
+    pub eps_zero: f64,
+    pub fill: f64,
+    pub x: Vec<f64>,
+    /// The failed block's number plus 1, or 0.
+    pub failed: u64,
+    pub answer: Vec<u64>,
+}
+
+pub fn projected() -> Vec<Projected> {
+    let all = records("replay_cones/stdin").into_iter();
+    let all = all.filter_map(|(operation, record)| {
+        let mut words = Words { left: &record };
+        let kind = match operation {
+            3 => Some(Kind::SecondOrder),
+            4 => Some(Kind::Rotated),
+            6 => None,
+            _ => return None,
+        };
+        let dual = words.take() == 1;
+        Some(match kind {
+            Some(kind) => {
+                let size = words.size();
+                Projected {
+                    blocks: vec![Block { kind, size }],
+                    dual,
+                    sweep_limit: 1,
+                    eps_zero: 0.0,
+                    fill: 0.0,
+                    x: numbers(&words.take_all(size)),
+                    failed: 0,
+                    answer: words.take_all(size),
+                }
+            }
+            None => {
+                let sweep_limit = words.size();
+                let (eps_zero, fill) = (words.number(), words.number());
+                let (blocks, places) = (words.size(), words.size());
+                let block = |word: &u64| Block::read(*word as u16).unwrap();
+                let blocks = words.take_all(blocks).iter().map(block).collect();
+                let x = numbers(&words.take_all(places));
+                let failed = words.take();
+                words.take();
+                Projected {
+                    blocks,
+                    dual,
+                    sweep_limit,
+                    eps_zero,
+                    fill,
+                    x,
+                    failed,
+                    answer: words.take_all(places),
+                }
+            }
+        })
+    });
+    all.collect()
+}
+
+/// Each card that is one, and its answer.
 pub fn cards() -> Vec<(Card, String)> {
     let bytes = stored("replay_cards/stdin");
     let answers = String::from_utf8(stored("replay_cards/stdout")).unwrap();
-    let is_first = |line: &&str| line.starts_with(|c: char| c.is_ascii_uppercase());
-    let mut answers = answers.lines().filter(is_first);
+    let is_first = |line: &str| line.starts_with(|c: char| c.is_ascii_uppercase());
+    let mut told: Vec<String> = Vec::new();
+    for line in answers.lines() {
+        if is_first(line) {
+            told.push(String::new());
+        }
+        let last = told.last_mut().unwrap();
+        *last += line;
+        *last += "\n";
+    }
+    let mut answers = told.into_iter();
     let (mut left, mut all) = (&bytes[8..], Vec::new());
     while !left.is_empty() {
         let (bytes, after) = left[8..].split_at(word(left) as usize);
         let answer = answers.next().unwrap();
-        all.extend(card::read(bytes).ok().map(|card| (card, answer.into())));
+        all.extend(card::read(bytes).ok().map(|card| (card, answer)));
         left = after;
     }
     assert_eq!(answers.next(), None);

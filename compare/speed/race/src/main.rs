@@ -39,7 +39,7 @@ fn race(case: &Case, libraries: &[Library], seconds: f64) -> Raced {
     let mut runs = 0;
     while runs < FEWEST || begun.elapsed().as_secs_f64() < seconds {
         let start = Instant::now();
-        let theirs = p.run::<f64>();
+        let theirs = p.original();
         original = start.elapsed().as_secs_f64().min(original);
         for (library, best) in libraries.iter().zip(&mut ours) {
             let Some(solve) = library.solve(case) else { continue };

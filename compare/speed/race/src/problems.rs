@@ -19,9 +19,9 @@ pub struct Case {
     pub form: Form,
     pub n: usize,
     pub m: usize,
-    /// How many places the one semidefinite block has; the rest is nonnegative.
-    psd: usize,
     pub words: Vec<u16>,
+    /// The blocks' names.
+    cones: String,
 }
 
 fn unknown(word: &str) -> ! {
@@ -30,6 +30,7 @@ fn unknown(word: &str) -> ! {
 }
 
 impl Case {
+    /// One semidefinite block of so many places; the rest is nonnegative.
     fn new(form: Form, n: usize, m: usize, psd: usize) -> Case {
         let mut words = Vec::new();
         if psd > 0 {
@@ -38,10 +39,26 @@ impl Case {
         if psd < m {
             words.push(0x2000 | (m - psd) as u16);
         }
-        Case { form, n, m, psd, words }
+        let cones = match psd {
+            0 => "nonnegative".to_string(),
+            places if places == m => format!("semidefinite of {places}"),
+            places => format!("semidefinite of {places}, nonnegative"),
+        };
+        Case { form, n, m, words, cones }
     }
 
-    /// vi, dense:N:M, split:N:M, packed:N or psd:N:PLACES.
+    /// So many second-order blocks, each of so many places.
+    fn second_order(n: usize, blocks: usize, places: usize) -> Case {
+        Case {
+            form: Form::Dense,
+            n,
+            m: blocks * places,
+            words: vec![0x4000 | places as u16; blocks],
+            cones: format!("{blocks} second-order of {places}"),
+        }
+    }
+
+    /// vi, dense:N:M, split:N:M, packed:N, psd:N:PLACES or soc:N:BLOCKS:PLACES.
     pub fn read(word: &str) -> Case {
         let parts: Vec<&str> = word.split(':').collect();
         let size = |k: usize| parts.get(k).and_then(|s| s.parse().ok()).unwrap_or_else(|| unknown(word));
@@ -51,6 +68,7 @@ impl Case {
             "split" => Case::new(Form::Split, size(1), size(2), 0),
             "packed" => Case::new(Form::Packed, size(1), size(1), 0),
             "psd" => Case::new(Form::Dense, size(1), size(2), size(2)),
+            "soc" => Case::second_order(size(1), size(2), size(3)),
             _ => unknown(word),
         }
     }
@@ -61,12 +79,7 @@ impl Case {
             _ if self.n == self.m => format!("n = m = {}", self.n),
             _ => format!("n = {}, m = {}", self.n, self.m),
         };
-        let cones = match self.psd {
-            0 => "nonnegative".to_string(),
-            places if places == self.m => format!("semidefinite of {places}"),
-            places => format!("semidefinite of {places}, nonnegative"),
-        };
-        format!("{sizes}, {cones}{}", if self.form == Form::Split { ", in two slices" } else { "" })
+        format!("{sizes}, {}{}", self.cones, if self.form == Form::Split { ", in two slices" } else { "" })
     }
 
     pub fn problem(&self, steps: u64) -> Problem {
@@ -93,7 +106,7 @@ impl Case {
 /// Request (vi)'s first, then small ones, a scale, a packed one, blocks, and two slices.
 pub fn all() -> Vec<Case> {
     let words = "vi dense:3:8 dense:12:12 dense:16:64 dense:64:64 dense:128:128 dense:256:256 dense:512:512 dense:1024:1024 dense:3:1024 \
-                 packed:3 packed:12 packed:32 packed:128 packed:1024 psd:4:6 psd:8:45 psd:8:171 psd:2:990 split:3:8 split:64:128 split:128:128 \
+                 packed:3 packed:12 packed:32 packed:128 packed:1024 psd:4:6 psd:8:45 psd:8:171 psd:2:990 soc:3:16:4 split:3:8 split:64:128 split:128:128 \
                  split:1024:1024";
     words.split_whitespace().map(Case::read).collect()
 }

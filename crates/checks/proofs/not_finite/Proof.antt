@@ -3,7 +3,7 @@ use borrow.Author.Needs.{needs}
 use borrow.Author.Tests.{not-true, not-false}
 use mathlib.Core.Path.{_≡_, sym, _∙_}
 use mathlib.Core.Bool.{true, false}
-use Rattle.rules.specs.Refusals.{allFinite}
+use Rattle.rules.specs.Helpers.{allFinite}
 use Rattle.checks.proofs.Finite.{finite-joined}
 use Rattle.checks.proofs.not_finite.Statement.{statement}
 use Rattle.checks.proofs.not_finite.Tie as tie

@@ -6,7 +6,7 @@ use mathlib.Core.Path.{_≡_, sym, _∙_}
 use mathlib.Core.Bool.{true, false}
 use lib.ListN.{length, drop}
 use Rattle.rules.specs.Arithmetic.{at}
-use Rattle.rules.specs.Refusals.{isFinite, allFinite}
+use Rattle.rules.specs.Helpers.{isFinite, allFinite}
 use Rattle.finite.proofs.Finite.{finite-more, finite-end}
 use Rattle.finite.proofs.all_finite.Statement.{statement}
 use Rattle.finite.proofs.all_finite.Tie as tie

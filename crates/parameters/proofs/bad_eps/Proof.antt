@@ -3,7 +3,7 @@ use borrow.Author.Needs.{needs}
 use borrow.Author.Tests.{not-true, not-false}
 use mathlib.Core.Path.{_≡_, sym, _∙_}
 use mathlib.Core.Bool.{true, false}
-use Rattle.rules.specs.Refusals.{isFinite}
+use Rattle.rules.specs.Helpers.{isFinite}
 use Rattle.parameters.proofs.bad_eps.Statement.{statement}
 use Rattle.parameters.proofs.bad_eps.Tie as tie
 

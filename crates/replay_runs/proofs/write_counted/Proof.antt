@@ -5,10 +5,10 @@ use Rattle.replay_runs.proofs.write_counted.Statement.{statement}
 use Rattle.replay_runs.proofs.write_counted.Tie as tie
 
 abbrev Inv-loop : tie.InvT-loop
-Inv-loop agree differ number₀ number = number ≤ 23
+Inv-loop agree differ number₀ number = number ≤ 24
 
 abbrev μ-loop : tie.MeasureT-loop
-μ-loop agree differ number₀ number = 23 - number
+μ-loop agree differ number₀ number = 24 - number
 
 loop-holds : tie.Need-loop-holds Inv-loop μ-loop
 loop-holds c = search needs

@@ -1,12 +1,14 @@
 -- `sums::norm` meets its contract.
 use Prim.Native.Nat.{_-_, _≤_}
-use mathlib.Core.Path.{_≡_, refl, _∙_, ap}
+use mathlib.Core.Path.{_≡_, refl, sym, _∙_, ap}
+use mathlib.Core.Logic.{⊎-elim}
 use lib.ListN.{length}
 use Rattle.rules.specs.Arithmetic.{_*ᶠ_, +0, at}
-use lib.Ieee.{binary64}
+use lib.Ieee.{binary64, ofBits, div}
 use Rattle.rules.specs.Root.{root}
 use Rattle.rules.specs.Vectors.{norm}
 use Rattle.rules.proofs.Arithmetic.{Summed, summed-none, summed-more, summed-all}
+use Rattle.rules.proofs.LargeNorms.{norm-of-other-sum, norm-of-not-finite, norm-of-large}
 use borrow.Author.Needs.{needs}
 use Rattle.sums.proofs.norm.Statement.{statement}
 use Rattle.sums.proofs.norm.Tie as tie
@@ -41,12 +43,28 @@ loop-less c = search needs
 loop-again : tie.Need-loop-again Inv-loop μ-loop
 loop-again c = (summed-more (c .before .before .before .loop .inv .0), search needs, search needs)
 
+all-finite-requires : tie.Need-all-finite-requires Inv-loop μ-loop
+all-finite-requires c κs = search needs
+
+scaled-norm-requires : tie.Need-scaled-norm-requires Inv-loop μ-loop
+scaled-norm-requires c κs = search needs
+
+returns : tie.Need-returns Inv-loop μ-loop
+unfolding div ofBits
+returns c =
+    let x = c .before .before .before .before .before .before .before .args .x .now in
+    let sum-is = summed-all {m = length x} (c .before .before .before .before .before .loop .inv .0) (search needs) in
+    c .scaled-norm .ensures ∙ sym (norm-of-large x (rw sum-is at (c .before .before .before .if1 .taken)) (sym (c .before .before .all-finite .ensures) ∙ c .before .if2 .taken))
+
 root-requires : tie.Need-root-requires Inv-loop μ-loop
 root-requires c κs = search needs
 
-returns : tie.Need-returns Inv-loop μ-loop
-unfolding norm
-returns c = c .root .ensures ∙ ap (root binary64) (summed-all {m = length (c .before .before .before .before .args .x .now)} (c .before .before .loop .inv .0) (search needs))
+returns-2 : tie.Need-returns-2 Inv-loop μ-loop
+unfolding div ofBits
+returns-2 c =
+    let x = c .before .before .before .before .before .args .x .now in
+    let sum-is = summed-all {m = length x} (c .before .before .before .loop .inv .0) (search needs) in
+    c .root .ensures ∙ ap (root binary64) sum-is ∙ sym (⊎-elim (λ w. norm-of-not-finite x (sym (w .1 .ensures) ∙ w .2 .left)) (λ w. norm-of-other-sum x (rw sum-is at (w .left))) (c .before .if1 .came))
 
 pub norm-spec : {M : Type 1} → statement M
 norm-spec =
@@ -62,5 +80,8 @@ norm-spec =
     add-i
     loop-less
     loop-again
+    all-finite-requires
+    scaled-norm-requires
+    returns
     root-requires
-    returns)
+    returns-2)

@@ -155,7 +155,7 @@ fn families(all: &mut Records, random: &mut Random) {
         while met < 6 {
             let mut p = small(random, family).raised();
             p.words = grouped(random, &p.words, MOST_WORDS);
-            if p.m <= 8 && p.n <= 8 && p.problem().solve().ending.name() == wanted {
+            if p.m <= 8 && p.n <= 8 && p.problem().solve_before().ending.name() == wanted {
                 all.take(&p);
                 met += 1;
             }

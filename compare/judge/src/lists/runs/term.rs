@@ -72,7 +72,7 @@ fn to_an_end(all: &mut Records, random: &mut Random) {
     ] {
         loop {
             let p = of_size(random, family, false, m, n).raised();
-            if p.problem().solve().ending.name() == wanted {
+            if p.problem().solve_before().ending.name() == wanted {
                 all.take(&p);
                 break;
             }

@@ -9,6 +9,7 @@ pub mod Triangle
 pub mod Columns
 pub mod Jacobi
 pub mod Run
+pub mod Progress
 pub mod Converged
 pub mod Refusals
 pub mod Rotations

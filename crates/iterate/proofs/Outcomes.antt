@@ -26,10 +26,12 @@ use Rattle.step.proofs.Ready.{fits-ready, step-fits}
 use Rattle.iterate.specs.declared.Iterated.{Iterated}
 use Rattle.iterate.specs.declared.Iterated.the-variants.{Made, No}
 use Rattle.whole_step.specs.declared.StepAnswer.{StepAnswer}
-use Rattle.whole_step.specs.declared.StepAnswer.the-variants.{Said, No as NoStep}
 use Rattle.whole_step.specs.WholeStep.{leftByStep, WholeStepOutcome}
+use Rattle.iterate.specs.declared.StepSaid.{StepSaid}
+use Rattle.iterate.specs.declared.StepSaid.the-variants.{Said, No as NotSaid}
+use Rattle.iterate.specs.Said.{saidBy}
 use Rattle.iterate.specs.Iterate.{pieceOf, beforeLast, IterateOutcome}
-use Rattle.iterate.proofs.Steps.{SteppedBy, said-by, nothing-said, perStep}
+use Rattle.iterate.proofs.Steps.{SteppedBy, SaidOutcome, said-outcome, said-by, nothing-said, perStep}
 use Rattle.iterate.proofs.Runs.{Running, running-start, running-counts, running-more, running-end, running-halts}
 
 -- ---- the loop
@@ -94,21 +96,24 @@ module _ {par : SolverParam} {shape : Shape} {c : List Float} {a : Slices} {b : 
   going-nowhere f h = record { answered = rw (fits-then f); left = rw (fits-then f) (h ∙ g .first (fits-then f)) }
 
 -- what the loop learns of its next step
-module _ {par : SolverParam} {shape : Shape} {c : List Float} {a : Slices} {b : List Float} {words : List ℕ} {ns : Norms} {behind given : ℕ} {from : State} {k q left : ℕ} {s : State} {answer : StepAnswer} {to : State}
-    (g : Going par shape c a b words ns behind given from k q left s) (o : WholeStepOutcome (stepFits par shape c a b words s) (problemIn shape c a b words par) ns (k + 1) s answer to) where
-  pub step-counts : {said : Verdict} {made : ℕ} → answer ≡ Said said made → made ≤ perStep
+module _ {par : SolverParam} {shape : Shape} {c : List Float} {a : Slices} {b : List Float} {words : List ℕ} {ns : Norms} {behind given : ℕ} {from : State} {k q left : ℕ} {s : State} {answer : StepAnswer} {heard : StepSaid} {to : State}
+    (g : Going par shape c a b words ns behind given from k q left s) (taken : WholeStepOutcome (stepFits par shape c a b words s) (problemIn shape c a b words par) ns s answer to) (told : heard ≡ saidBy par (k + 1) answer) where
+  o : SaidOutcome (stepFits par shape c a b words s) (problemIn shape c a b words par) ns (k + 1) s heard to
+  o = said-outcome taken told
+
+  pub step-counts : {said : Verdict} {made : ℕ} → heard ≡ Said said made → made ≤ perStep
   step-counts is = let w = said-by o is in running-counts (g .running) (w .1) (cones-now g (w .0))
 
-  pub step-ends : {said : Verdict} {made : ℕ} {e : Ending} → answer ≡ Said said made → said ≡ Ends e → IterateOutcome (stepFits par shape c a b words from) (problemIn shape c a b words par) ns behind given from (Made (Ends e) (k + 1) (q + made)) to
+  pub step-ends : {said : Verdict} {made : ℕ} {e : Ending} → heard ≡ Said said made → said ≡ Ends e → IterateOutcome (stepFits par shape c a b words from) (problemIn shape c a b words par) ns behind given from (Made (Ends e) (k + 1) (q + made)) to
   step-ends {e = e} is h = let w = said-by o is in going-end g (w .0) (running-end (g .running) (w .1) e h)
 
-  pub step-halts : {said : Verdict} {made : ℕ} → answer ≡ Said said made → said ≡ GoesOn → left ≤ 1 → IterateOutcome (stepFits par shape c a b words from) (problemIn shape c a b words par) ns behind given from (Made GoesOn (k + 1) (q + made)) to
+  pub step-halts : {said : Verdict} {made : ℕ} → heard ≡ Said said made → said ≡ GoesOn → left ≤ 1 → IterateOutcome (stepFits par shape c a b words from) (problemIn shape c a b words par) ns behind given from (Made GoesOn (k + 1) (q + made)) to
   step-halts is h l = let w = said-by o is in going-end g (w .0) (running-halts (g .running) (w .1) h l)
 
-  pub step-more : {said : Verdict} {made : ℕ} → answer ≡ Said said made → said ≡ GoesOn → 1 < left → Kept s to → Going par shape c a b words ns behind given from (k + 1) (q + made) (left - 1) to
+  pub step-more : {said : Verdict} {made : ℕ} → heard ≡ Said said made → said ≡ GoesOn → 1 < left → Kept s to → Going par shape c a b words ns behind given from (k + 1) (q + made) (left - 1) to
   step-more is h l kept = let w = said-by o is in going-more g (w .0) (w .1) h l kept
 
-  pub step-refused : answer ≡ NoStep → IterateOutcome (stepFits par shape c a b words from) (problemIn shape c a b words par) ns behind given from No to
+  pub step-refused : heard ≡ NotSaid → IterateOutcome (stepFits par shape c a b words from) (problemIn shape c a b words par) ns behind given from No to
   step-refused is = let w = nothing-said o is in going-nowhere g (w .0) (w .1)
 
 -- ---- the outcome

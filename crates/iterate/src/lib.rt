@@ -1,17 +1,29 @@
 // A piece of a run: its steps, up to the one that ends it or as many as are given.
+use rules::Criteria;
+use rules::Ending;
 use rules::Norms;
 use rules::Shape;
 use rules::SolverParam;
 use rules::Verdict;
 use whole_step::StepAnswer;
 use whole_step::whole_step;
+ghost use mathlib.Core.Path.{_≡_};
 ghost use Rattle.rules.specs.Problem.{slices, problemIn};
+ghost use Rattle.rules.specs.Product.{none};
+ghost use Rattle.rules.specs.Run as rules;
 ghost use Rattle.step.specs.Update.{stateOf, stepFits};
+ghost use Rattle.iterate.specs.Said.{saidBy};
 ghost use Rattle.iterate.specs.Iterate.{IterateOutcome};
 
 // What a piece answers: what its last step said, the steps by then and the rotations made, or a plain no.
 pub enum Iterated {
     Made(Verdict, u64, u64),
+    No,
+}
+
+// What step k says of a run: its verdict with the rotations that it made, or a plain no.
+enum StepSaid {
+    Said(Verdict, u64),
     No,
 }
 
@@ -64,7 +76,6 @@ pub fn iterate(
             b,
             words,
             norms,
-            k,
             x,
             y,
             dp_tau,
@@ -73,8 +84,9 @@ pub fn iterate(
             tx,
             cone_work,
         );
-        match t {
-            StepAnswer::Said(v, made) => {
+        let s = said(par, k, t);
+        match s {
+            StepSaid::Said(v, made) => {
                 q = q + made;
                 match v {
                     Verdict::Ends(e) => return Iterated::Made(Verdict::Ends(e), k, q),
@@ -87,7 +99,33 @@ pub fn iterate(
                 }
             }
             // only at the first step
-            StepAnswer::No => return Iterated::No,
+            StepSaid::No => return Iterated::No,
         }
+    }
+}
+
+// What step k says, by what it answered.
+fn said(par: SolverParam, k: u64, t: StepAnswer) -> StepSaid
+    ensures { λ r. ⌜ r ≡ saidBy par k t ⌝ }
+{
+    match t {
+        StepAnswer::Judged(found, made) => {
+            let v = says(par, k, found);
+            StepSaid::Said(v, made)
+        }
+        StepAnswer::Failed(block, made) => {
+            StepSaid::Said(Verdict::Ends(Ending::ConeFailure(block)), made)
+        }
+        StepAnswer::No => StepSaid::No,
+    }
+}
+
+// What a step's criteria say at step k.
+fn says(par: SolverParam, k: u64, found: Criteria) -> Verdict
+    ensures { λ r. ⌜ r ≡ rules.verdict par k none found ⌝ }
+{
+    match found {
+        Criteria::Conv(pri, dual, gap) => verdict::of_conv(par, k, pri, dual, gap),
+        Criteria::Inf(unbdd, infeas) => verdict::of_inf(par, k, unbdd, infeas),
     }
 }

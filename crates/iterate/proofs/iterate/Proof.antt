@@ -24,55 +24,58 @@ add-k c = omega (arith, c .loop .inv .running .rest, c .before .before .before .
 whole-step-requires : tie.Need-whole-step-requires Inv-loop μ-loop
 whole-step-requires c κs = search needs
 
-enum-known-t : tie.Need-enum-known-t Inv-loop μ-loop
-enum-known-t c = search needs
+said-requires : tie.Need-said-requires Inv-loop μ-loop
+said-requires c κs = search needs
+
+enum-known-s : tie.Need-enum-known-s Inv-loop μ-loop
+enum-known-s c = search needs
 
 add-q : tie.Need-add-q Inv-loop μ-loop
 add-q c =
-    let g = c .before .before .before .before .before .before .before .before .before .before .before .before .before .before .before .before .before .before .before .loop .inv .running in
-    omega (arith, step-counts (c .before .before .before .before .before .before .before .before .before .before .before .before .before .before .before .before .before .before .before .loop .inv) (c .before .before .before .before .before .before .before .before .before .before .before .before .before .whole-step .ensures) (c .before .t .given .1), g .within, g .rest, g .least, c .before .before .before .before .before .before .before .before .before .before .before .before .before .before .before .before .before .before .before .before .before .before .before .before .before .before .before .before .before .before .before .before .good)
+    let g = c .before .before .before .before .before .before .before .before .before .before .before .before .before .before .before .before .before .before .before .before .loop .inv .running in
+    omega (arith, step-counts (c .before .before .before .before .before .before .before .before .before .before .before .before .before .before .before .before .before .before .before .before .loop .inv) (c .before .before .before .before .before .before .before .before .before .before .before .before .before .before .whole-step .ensures) (c .before .before .before .said .ensures) (c .before .s .given .1), g .within, g .rest, g .least, c .before .before .before .before .before .before .before .before .before .before .before .before .before .before .before .before .before .before .before .before .before .before .before .before .before .before .before .before .before .before .before .before .before .good)
 
 enum-known-v : tie.Need-enum-known-v Inv-loop μ-loop
 enum-known-v c = search needs
 
 same-length : tie.Need-same-length Inv-loop μ-loop
-same-length c = omega (arith, c .before .before .before .before .before .before .before .before .before .before .before .before .before .before .before .before .before .before .before .before .before .before .loop .inv .kept .x-kept, c .before .before .before .before .before .before .before .before .before .before .before .before .before .before .before .before .whole-step .kept)
+same-length c = omega (arith, c .before .before .before .before .before .before .before .before .before .before .before .before .before .before .before .before .before .before .before .before .before .before .before .loop .inv .kept .x-kept, c .before .before .before .before .before .before .before .before .before .before .before .before .before .before .before .before .before .whole-step .kept)
 
 same-length-2 : tie.Need-same-length-2 Inv-loop μ-loop
-same-length-2 c = omega (arith, c .before .before .before .before .before .before .before .before .before .before .before .before .before .before .before .before .before .before .before .before .before .before .loop .inv .kept .y-kept, c .before .before .before .before .before .before .before .before .before .before .before .before .before .before .before .before .whole-step .kept)
+same-length-2 c = omega (arith, c .before .before .before .before .before .before .before .before .before .before .before .before .before .before .before .before .before .before .before .before .before .before .before .loop .inv .kept .y-kept, c .before .before .before .before .before .before .before .before .before .before .before .before .before .before .before .before .before .whole-step .kept)
 
 same-length-3 : tie.Need-same-length-3 Inv-loop μ-loop
-same-length-3 c = omega (arith, c .before .before .before .before .before .before .before .before .before .before .before .before .before .before .before .before .before .before .before .before .before .before .loop .inv .kept .rx-kept, c .before .before .before .before .before .before .before .before .before .before .before .before .before .before .before .before .whole-step .kept)
+same-length-3 c = omega (arith, c .before .before .before .before .before .before .before .before .before .before .before .before .before .before .before .before .before .before .before .before .before .before .before .loop .inv .kept .rx-kept, c .before .before .before .before .before .before .before .before .before .before .before .before .before .before .before .before .before .whole-step .kept)
 
 same-length-4 : tie.Need-same-length-4 Inv-loop μ-loop
-same-length-4 c = omega (arith, c .before .before .before .before .before .before .before .before .before .before .before .before .before .before .before .before .before .before .before .before .before .before .loop .inv .kept .tx-kept, c .before .before .before .before .before .before .before .before .before .before .before .before .before .before .before .before .whole-step .kept)
+same-length-4 c = omega (arith, c .before .before .before .before .before .before .before .before .before .before .before .before .before .before .before .before .before .before .before .before .before .before .before .loop .inv .kept .tx-kept, c .before .before .before .before .before .before .before .before .before .before .before .before .before .before .before .before .before .whole-step .kept)
 
 same-length-5 : tie.Need-same-length-5 Inv-loop μ-loop
-same-length-5 c = omega (arith, c .before .before .before .before .before .before .before .before .before .before .before .before .before .before .before .before .before .before .before .before .before .before .loop .inv .kept .cone-kept, c .before .before .before .before .before .before .before .before .before .before .before .before .before .before .before .before .whole-step .kept)
+same-length-5 c = omega (arith, c .before .before .before .before .before .before .before .before .before .before .before .before .before .before .before .before .before .before .before .before .before .before .before .loop .inv .kept .cone-kept, c .before .before .before .before .before .before .before .before .before .before .before .before .before .before .before .before .before .whole-step .kept)
 
 returns : tie.Need-returns Inv-loop μ-loop
-returns c = step-ends (c .before .before .before .before .before .before .before .before .before .before .before .before .before .before .before .before .before .before .before .before .before .before .loop .inv) (c .before .before .before .before .before .before .before .before .before .before .before .before .before .before .before .before .whole-step .ensures) (c .before .before .before .before .t .given .1) (c .before .v .given .1)
+returns c = step-ends (c .before .before .before .before .before .before .before .before .before .before .before .before .before .before .before .before .before .before .before .before .before .before .before .loop .inv) (c .before .before .before .before .before .before .before .before .before .before .before .before .before .before .before .before .before .whole-step .ensures) (c .before .before .before .before .before .before .said .ensures) (c .before .before .before .before .s .given .1) (c .before .v .given .1)
 
 enum-told : tie.Need-enum-told Inv-loop μ-loop
 enum-told c = search needs
 
 same-length-6 : tie.Need-same-length-6 Inv-loop μ-loop
-same-length-6 c = omega (arith, c .before .before .before .before .before .before .before .before .before .before .before .before .before .before .before .before .before .before .before .before .before .before .loop .inv .kept .x-kept, c .before .before .before .before .before .before .before .before .before .before .before .before .before .before .before .before .whole-step .kept)
+same-length-6 c = omega (arith, c .before .before .before .before .before .before .before .before .before .before .before .before .before .before .before .before .before .before .before .before .before .before .before .loop .inv .kept .x-kept, c .before .before .before .before .before .before .before .before .before .before .before .before .before .before .before .before .before .whole-step .kept)
 
 same-length-7 : tie.Need-same-length-7 Inv-loop μ-loop
-same-length-7 c = omega (arith, c .before .before .before .before .before .before .before .before .before .before .before .before .before .before .before .before .before .before .before .before .before .before .loop .inv .kept .y-kept, c .before .before .before .before .before .before .before .before .before .before .before .before .before .before .before .before .whole-step .kept)
+same-length-7 c = omega (arith, c .before .before .before .before .before .before .before .before .before .before .before .before .before .before .before .before .before .before .before .before .before .before .before .loop .inv .kept .y-kept, c .before .before .before .before .before .before .before .before .before .before .before .before .before .before .before .before .before .whole-step .kept)
 
 same-length-8 : tie.Need-same-length-8 Inv-loop μ-loop
-same-length-8 c = omega (arith, c .before .before .before .before .before .before .before .before .before .before .before .before .before .before .before .before .before .before .before .before .before .before .loop .inv .kept .rx-kept, c .before .before .before .before .before .before .before .before .before .before .before .before .before .before .before .before .whole-step .kept)
+same-length-8 c = omega (arith, c .before .before .before .before .before .before .before .before .before .before .before .before .before .before .before .before .before .before .before .before .before .before .before .loop .inv .kept .rx-kept, c .before .before .before .before .before .before .before .before .before .before .before .before .before .before .before .before .before .whole-step .kept)
 
 same-length-9 : tie.Need-same-length-9 Inv-loop μ-loop
-same-length-9 c = omega (arith, c .before .before .before .before .before .before .before .before .before .before .before .before .before .before .before .before .before .before .before .before .before .before .loop .inv .kept .tx-kept, c .before .before .before .before .before .before .before .before .before .before .before .before .before .before .before .before .whole-step .kept)
+same-length-9 c = omega (arith, c .before .before .before .before .before .before .before .before .before .before .before .before .before .before .before .before .before .before .before .before .before .before .before .loop .inv .kept .tx-kept, c .before .before .before .before .before .before .before .before .before .before .before .before .before .before .before .before .before .whole-step .kept)
 
 same-length-10 : tie.Need-same-length-10 Inv-loop μ-loop
-same-length-10 c = omega (arith, c .before .before .before .before .before .before .before .before .before .before .before .before .before .before .before .before .before .before .before .before .before .before .loop .inv .kept .cone-kept, c .before .before .before .before .before .before .before .before .before .before .before .before .before .before .before .before .whole-step .kept)
+same-length-10 c = omega (arith, c .before .before .before .before .before .before .before .before .before .before .before .before .before .before .before .before .before .before .before .before .before .before .before .loop .inv .kept .cone-kept, c .before .before .before .before .before .before .before .before .before .before .before .before .before .before .before .before .before .whole-step .kept)
 
 returns-2 : tie.Need-returns-2 Inv-loop μ-loop
-returns-2 c = step-halts (c .before .before .before .before .before .before .before .before .before .before .before .before .before .before .before .before .before .before .before .before .before .before .loop .inv) (c .before .before .before .before .before .before .before .before .before .before .before .before .before .before .before .before .whole-step .ensures) (c .before .before .before .before .t .given .1) (c .before .enum-told .given .1) (c .if1 .taken)
+returns-2 c = step-halts (c .before .before .before .before .before .before .before .before .before .before .before .before .before .before .before .before .before .before .before .before .before .before .before .loop .inv) (c .before .before .before .before .before .before .before .before .before .before .before .before .before .before .before .before .before .whole-step .ensures) (c .before .before .before .before .before .before .said .ensures) (c .before .before .before .before .s .given .1) (c .before .enum-told .given .1) (c .if1 .taken)
 
 sub-left : tie.Need-sub-left Inv-loop μ-loop
 sub-left c = search needs
@@ -82,30 +85,30 @@ loop-less c = omega (arith, c .if1 .left)
 
 loop-again : tie.Need-loop-again Inv-loop μ-loop
 loop-again c =
-    let t = c .before .before .before .before .before .before .before .before .before .before .before .before .before .before .before .before .whole-step in
-    step-more (c .before .before .before .before .before .before .before .before .before .before .before .before .before .before .before .before .before .before .before .before .before .before .loop .inv) (t .ensures) (c .before .before .before .before .t .given .1) (c .before .enum-told .given .1) (omega (arith, c .if1 .left))
+    let t = c .before .before .before .before .before .before .before .before .before .before .before .before .before .before .before .before .before .whole-step in
+    step-more (c .before .before .before .before .before .before .before .before .before .before .before .before .before .before .before .before .before .before .before .before .before .before .before .loop .inv) (t .ensures) (c .before .before .before .before .before .before .said .ensures) (c .before .before .before .before .s .given .1) (c .before .enum-told .given .1) (omega (arith, c .if1 .left))
     (record { x-kept = omega (arith, t .kept); y-kept = omega (arith, t .kept); tau-kept = refl; sigma-kept = refl; rx-kept = omega (arith, t .kept); tx-kept = omega (arith, t .kept); cone-kept = omega (arith, t .kept) })
 
 enum-told-2 : tie.Need-enum-told-2 Inv-loop μ-loop
 enum-told-2 c = search needs
 
 same-length-11 : tie.Need-same-length-11 Inv-loop μ-loop
-same-length-11 c = omega (arith, c .before .before .before .before .before .before .before .before .before .before .before .before .before .before .before .before .before .before .loop .inv .kept .x-kept, c .before .before .before .before .before .before .before .before .before .before .before .before .whole-step .kept)
+same-length-11 c = omega (arith, c .before .before .before .before .before .before .before .before .before .before .before .before .before .before .before .before .before .before .before .loop .inv .kept .x-kept, c .before .before .before .before .before .before .before .before .before .before .before .before .before .whole-step .kept)
 
 same-length-12 : tie.Need-same-length-12 Inv-loop μ-loop
-same-length-12 c = omega (arith, c .before .before .before .before .before .before .before .before .before .before .before .before .before .before .before .before .before .before .loop .inv .kept .y-kept, c .before .before .before .before .before .before .before .before .before .before .before .before .whole-step .kept)
+same-length-12 c = omega (arith, c .before .before .before .before .before .before .before .before .before .before .before .before .before .before .before .before .before .before .before .loop .inv .kept .y-kept, c .before .before .before .before .before .before .before .before .before .before .before .before .before .whole-step .kept)
 
 same-length-13 : tie.Need-same-length-13 Inv-loop μ-loop
-same-length-13 c = omega (arith, c .before .before .before .before .before .before .before .before .before .before .before .before .before .before .before .before .before .before .loop .inv .kept .rx-kept, c .before .before .before .before .before .before .before .before .before .before .before .before .whole-step .kept)
+same-length-13 c = omega (arith, c .before .before .before .before .before .before .before .before .before .before .before .before .before .before .before .before .before .before .before .loop .inv .kept .rx-kept, c .before .before .before .before .before .before .before .before .before .before .before .before .before .whole-step .kept)
 
 same-length-14 : tie.Need-same-length-14 Inv-loop μ-loop
-same-length-14 c = omega (arith, c .before .before .before .before .before .before .before .before .before .before .before .before .before .before .before .before .before .before .loop .inv .kept .tx-kept, c .before .before .before .before .before .before .before .before .before .before .before .before .whole-step .kept)
+same-length-14 c = omega (arith, c .before .before .before .before .before .before .before .before .before .before .before .before .before .before .before .before .before .before .before .loop .inv .kept .tx-kept, c .before .before .before .before .before .before .before .before .before .before .before .before .before .whole-step .kept)
 
 same-length-15 : tie.Need-same-length-15 Inv-loop μ-loop
-same-length-15 c = omega (arith, c .before .before .before .before .before .before .before .before .before .before .before .before .before .before .before .before .before .before .loop .inv .kept .cone-kept, c .before .before .before .before .before .before .before .before .before .before .before .before .whole-step .kept)
+same-length-15 c = omega (arith, c .before .before .before .before .before .before .before .before .before .before .before .before .before .before .before .before .before .before .before .loop .inv .kept .cone-kept, c .before .before .before .before .before .before .before .before .before .before .before .before .before .whole-step .kept)
 
 returns-3 : tie.Need-returns-3 Inv-loop μ-loop
-returns-3 c = step-refused (c .before .before .before .before .before .before .before .before .before .before .before .before .before .before .before .before .before .before .loop .inv) (c .before .before .before .before .before .before .before .before .before .before .before .before .whole-step .ensures) (c .enum-told2 .given .1)
+returns-3 c = step-refused (c .before .before .before .before .before .before .before .before .before .before .before .before .before .before .before .before .before .before .before .loop .inv) (c .before .before .before .before .before .before .before .before .before .before .before .before .before .whole-step .ensures) (c .before .before .said .ensures) (c .enum-told2 .given .1)
 
 pub iterate-spec : {M : Type 1} → statement M
 iterate-spec =
@@ -116,7 +119,8 @@ iterate-spec =
     loop-holds
     add-k
     whole-step-requires
-    enum-known-t
+    said-requires
+    enum-known-s
     add-q
     enum-known-v
     same-length

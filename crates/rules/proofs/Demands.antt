@@ -1,5 +1,5 @@
 -- The owner's demands hold of the rules: each statement of `specs/Demands.antt`, with its proof's place.
-use Prim.Native.Nat.{ℕ, _+_, _≤_}
+use Prim.Native.Nat.{ℕ, _+_, _-_, _/_, _≤_}
 use native.Mathlib.Omega.{arith}
 use mathlib.Core.Path.{_≡_, refl}
 use mathlib.Core.Logic.{_↔_}
@@ -22,7 +22,8 @@ use Rattle.rules.specs.declared.Refusal.the-variants.{Accepted}
 use Rattle.rules.specs.declared.Word.the-variants.{Bad}
 use Rattle.rules.specs.Refusals.{Fact, facts, tooLarge, badCone, refusal, readProblem, plainProblem, numberOf, solved, SolveOutcome}
 use Rattle.rules.specs.Split.{SplitProblem, slicesFit, joinedProblem, plainSplit, splitFacts, splitRefusal, splitSolved, SplitOutcome}
-use Rattle.rules.specs.Demands.{NoneHolds, NumberedFrom, GivenExactly, TurnedAwayExactly, SplitTurnedAwayExactly, AsJoinedOrInvalid, GoesByTheRules, EndsFirst, GoesOnExactly, ConvergedExactly, RotationsBounded, AnsweredByTheRules, OldContentsChangeNothing, SplitOldContentsChangeNothing, PlacesBeyondKept, SplitPlacesBeyondKept}
+use Rattle.rules.specs.Progress.{isDue}
+use Rattle.rules.specs.Demands.{NoneHolds, NumberedFrom, GivenExactly, TurnedAwayExactly, SplitTurnedAwayExactly, AsJoinedOrInvalid, GoesByTheRules, EndsFirst, GoesOnExactly, ConvergedExactly, RotationsBounded, AnsweredByTheRules, OldContentsChangeNothing, SplitOldContentsChangeNothing, PlacesBeyondKept, SplitPlacesBeyondKept, AtRow, dueUpTo}
 use Rattle.rules.proofs.Refusals as Refusals
 use Rattle.rules.proofs.Run as Run
 use Rattle.rules.proofs.Converged as Converged
@@ -35,6 +36,7 @@ use Rattle.rules.proofs.Enough as Enough
 use Rattle.rules.proofs.Groups as Groups
 use Rattle.rules.proofs.Unreadable as Unreadable
 use Rattle.rules.proofs.GroupedRuns as GroupedRuns
+use Rattle.rules.proofs.Due as Due
 
 -- ---- demand 1
 
@@ -196,3 +198,16 @@ group-is-no-block = Groups.group-is-no-block
 
 pub group-is-bad-cone : (words : List ℕ) (m : ℕ) → hasGroup words ≡ true → isBadCone words m ≡ true
 group-is-bad-cone = Groups.group-is-bad-cone
+
+-- ---- request (x): a progress record
+
+-- "At steps 1, 1 + period, 1 + 2·period and so on", and "0 means none"
+pub due-exactly : (period k : ℕ) → (isDue period k ≡ true) ↔ AtRow period k
+due-exactly = Due.due-exactly
+
+-- how many of the first k steps these are: k over the period, rounded up, and none without a period
+pub due-steps : (period k : ℕ) → 1 ≤ period → dueUpTo period k ≡ (k + period - 1) / period
+due-steps = Due.due-steps
+
+pub no-period-no-steps : (k : ℕ) → dueUpTo 0 k ≡ 0
+no-period-no-steps = Due.no-period-no-steps

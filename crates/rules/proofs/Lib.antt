@@ -10,6 +10,7 @@ pub mod Columns
 pub mod Jacobi
 pub mod Run
 pub mod Progress
+pub mod Due
 pub mod Converged
 pub mod Refusals
 pub mod Rotations

@@ -8,6 +8,8 @@ use mathlib.Core.List.{List}
 use lib.Ieee.{Float}
 use lib.ListN.{length}
 use Rattle.rules.specs.declared.Answer.{Answer}
+use Rattle.rules.specs.declared.Ending.{Ending}
+use Rattle.rules.specs.declared.Logged.{Logged}
 use Rattle.rules.specs.Product.{Failure}
 use Rattle.rules.specs.Limits.{limit, mostDeep}
 use Rattle.rules.specs.Blocks.{readWord, isBadCone}
@@ -18,11 +20,11 @@ use Rattle.rules.specs.Step.{State}
 use Rattle.rules.specs.declared.Norms.{Norms}
 use Rattle.rules.specs.declared.Criteria.{Criteria}
 use Rattle.rules.specs.Run.{pieceFrom, takenUp, Ended, run, leftBy}
-use Rattle.rules.specs.declared.Refusal.the-variants.{Accepted}
+use Rattle.rules.specs.declared.Refusal.the-variants.{Accepted, Refused}
 use Rattle.rules.specs.declared.Word.the-variants.{Bad}
-use Rattle.rules.specs.Refusals.{Fact, facts, tooLarge, badCone, refusal, readProblem, plainProblem, numberOf, solved, SolveOutcome}
+use Rattle.rules.specs.Refusals.{Fact, facts, tooLarge, badCone, refusal, readProblem, plainProblem, numberOf, turnedAway, solved, SolveOutcome}
 use Rattle.rules.specs.Split.{SplitProblem, slicesFit, joinedProblem, plainSplit, splitFacts, splitRefusal, splitSolved, SplitOutcome}
-use Rattle.rules.specs.Progress.{isDue}
+use Rattle.rules.specs.Progress.{isDue, untouched, withLog, LoggedLeft, loggedSolved, splitLogged, LoggedAs, LoggedOutcome, SplitLoggedOutcome}
 use Rattle.rules.specs.Demands.{NoneHolds, NumberedFrom, GivenExactly, TurnedAwayExactly, SplitTurnedAwayExactly, AsJoinedOrInvalid, GoesByTheRules, EndsFirst, GoesOnExactly, ConvergedExactly, RotationsBounded, AnsweredByTheRules, OldContentsChangeNothing, SplitOldContentsChangeNothing, PlacesBeyondKept, SplitPlacesBeyondKept, AtRow, dueUpTo}
 use Rattle.rules.proofs.Refusals as Refusals
 use Rattle.rules.proofs.Run as Run
@@ -37,6 +39,7 @@ use Rattle.rules.proofs.Groups as Groups
 use Rattle.rules.proofs.Unreadable as Unreadable
 use Rattle.rules.proofs.GroupedRuns as GroupedRuns
 use Rattle.rules.proofs.Due as Due
+use Rattle.rules.proofs.LoggedRuns as LoggedRuns
 
 -- ---- demand 1
 
@@ -211,3 +214,26 @@ due-steps = Due.due-steps
 
 pub no-period-no-steps : (k : ℕ) → dueUpTo 0 k ≡ 0
 no-period-no-steps = Due.no-period-no-steps
+
+-- "Neither the period nor this buffer's contents or length may alter verdict, k, q, work or cone work": what `solve_logged` may answer and leave of these is what
+-- `solve` may, so that demands 1 to 3 carry over
+pub logged-outcome-is-the-plain : (p : Problem) (work cone log : List Float) (answer : Logged) (work' cone' log' : List Float) → LoggedOutcome p work cone log answer work' cone' log' → SolveOutcome p work cone (answer .answer) work' cone'
+logged-outcome-is-the-plain = LoggedRuns.logged-outcome-is-the-plain
+
+pub split-logged-outcome-is-the-plain : (p : SplitProblem) (work cone log : List Float) (answer : Logged) (work' cone' log' : List Float) → SplitLoggedOutcome p work cone log answer work' cone' log' → SplitOutcome p work cone (answer .answer) work' cone'
+split-logged-outcome-is-the-plain = LoggedRuns.split-logged-outcome-is-the-plain
+
+-- "a refusal writes none and answers 0 for both counts"
+pub refused-records-nothing : (p : Problem) (work cone log : List Float) (e : Ending) → refusal p (length work) (length cone) ≡ Refused e → loggedSolved p work cone log ≡ withLog (turnedAway e work cone) (untouched log)
+refused-records-nothing = LoggedRuns.refused-records-nothing
+
+pub split-refused-records-nothing : (p : SplitProblem) (work cone log : List Float) (e : Ending) → splitRefusal p (length work) (length cone) ≡ Refused e → splitLogged p work cone log ≡ withLog (turnedAway e work cone) (untouched log)
+split-refused-records-nothing = LoggedRuns.split-refused-records-nothing
+
+-- where the slices have their lengths, all of it is that of the joined matrix, the record too
+pub split-logged-as-joined : (p : SplitProblem) (work cone log : List Float) → slicesFit p ≡ true → splitLogged p work cone log ≡ loggedSolved (joinedProblem p) work cone log
+split-logged-as-joined = LoggedRuns.split-logged-as-joined
+
+-- "That any pair of outcomes allowed by it coincide is itself proved": of one A and of one in two slices
+pub any-two-logged-outcomes-coincide : {left : LoggedLeft} {a a' : Logged} {w w' c c' l l' : List Float} → LoggedAs left a w c l → LoggedAs left a' w' c' l' → (a ≡ a') × (w ≡ w') × (c ≡ c') × (l ≡ l')
+any-two-logged-outcomes-coincide s t = LoggedRuns.any-two-logged-outcomes-coincide s t

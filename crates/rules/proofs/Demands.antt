@@ -25,7 +25,7 @@ use Rattle.rules.specs.declared.Word.the-variants.{Bad}
 use Rattle.rules.specs.Refusals.{Fact, facts, tooLarge, badCone, refusal, readProblem, plainProblem, numberOf, turnedAway, solved, SolveOutcome}
 use Rattle.rules.specs.Split.{SplitProblem, slicesFit, joinedProblem, plainSplit, splitFacts, splitRefusal, splitSolved, SplitOutcome}
 use Rattle.rules.specs.Progress.{isDue, untouched, withLog, LoggedLeft, loggedSolved, splitLogged, LoggedAs, LoggedOutcome, SplitLoggedOutcome}
-use Rattle.rules.specs.Demands.{NoneHolds, NumberedFrom, GivenExactly, TurnedAwayExactly, SplitTurnedAwayExactly, AsJoinedOrInvalid, GoesByTheRules, EndsFirst, GoesOnExactly, ConvergedExactly, RotationsBounded, AnsweredByTheRules, OldContentsChangeNothing, SplitOldContentsChangeNothing, PlacesBeyondKept, SplitPlacesBeyondKept, AtRow, dueUpTo}
+use Rattle.rules.specs.Demands.{NoneHolds, NumberedFrom, GivenExactly, TurnedAwayExactly, SplitTurnedAwayExactly, AsJoinedOrInvalid, GoesByTheRules, EndsFirst, GoesOnExactly, ConvergedExactly, RotationsBounded, AnsweredByTheRules, OldContentsChangeNothing, SplitOldContentsChangeNothing, PlacesBeyondKept, SplitPlacesBeyondKept, AtRow, dueUpTo, RecordedByTheRules, OldContentsOfThree, SplitOldContentsOfThree}
 use Rattle.rules.proofs.Refusals as Refusals
 use Rattle.rules.proofs.Run as Run
 use Rattle.rules.proofs.Converged as Converged
@@ -233,6 +233,29 @@ split-refused-records-nothing = LoggedRuns.split-refused-records-nothing
 -- where the slices have their lengths, all of it is that of the joined matrix, the record too
 pub split-logged-as-joined : (p : SplitProblem) (work cone log : List Float) → slicesFit p ≡ true → splitLogged p work cone log ≡ loggedSolved (joinedProblem p) work cone log
 split-logged-as-joined = LoggedRuns.split-logged-as-joined
+
+-- "At steps 1, 1 + period, 1 + 2·period and so on up to k, a row is written: tau, then the three convergence criteria, or the two others and +0. A step with
+-- ConeFailure writes no row and drops none. Rows stand one after another from the buffer's first place, four places each. Rows that don't fit whole are dropped; the
+-- answer gains rows written and rows dropped. Every place not in a written row keeps its contents": where no fact of the table holds
+pub recorded-by-the-rules : (p : Problem) (work cone log : List Float) (answer : Logged) (work' cone' log' : List Float) → LoggedOutcome p work cone log answer work' cone' log' → NoneHolds (facts p (length work) (length cone)) → RecordedByTheRules (readProblem p) log answer log'
+recorded-by-the-rules = LoggedRuns.recorded-by-the-rules
+
+pub split-recorded-by-the-rules : (p : SplitProblem) (work cone log : List Float) (answer : Logged) (work' cone' log' : List Float) → SplitLoggedOutcome p work cone log answer work' cone' log' → NoneHolds (splitFacts p (length work) (length cone)) → RecordedByTheRules (readProblem (joinedProblem p)) log answer log'
+split-recorded-by-the-rules = LoggedRuns.split-recorded-by-the-rules
+
+-- refused or not, no place comes or goes
+pub log-as-long : (p : Problem) (work cone log : List Float) → length (loggedSolved p work cone log .log) ≡ length log
+log-as-long = LoggedRuns.log-as-long
+
+pub split-log-as-long : (p : SplitProblem) (work cone log : List Float) → length (splitLogged p work cone log .log) ≡ length log
+split-log-as-long = LoggedRuns.split-log-as-long
+
+-- "the old-contents law now covers three buffers"
+pub old-contents-of-three : (p : Problem) (work cone log work' cone' log' : List Float) → refusal p (length work) (length cone) ≡ Accepted → refusal p (length work') (length cone') ≡ Accepted → OldContentsOfThree p work cone log work' cone' log'
+old-contents-of-three = LoggedRuns.old-contents-of-three
+
+pub split-old-contents-of-three : (p : SplitProblem) (work cone log work' cone' log' : List Float) → splitRefusal p (length work) (length cone) ≡ Accepted → splitRefusal p (length work') (length cone') ≡ Accepted → SplitOldContentsOfThree p work cone log work' cone' log'
+split-old-contents-of-three = LoggedRuns.split-old-contents-of-three
 
 -- "That any pair of outcomes allowed by it coincide is itself proved": of one A and of one in two slices
 pub any-two-logged-outcomes-coincide : {left : LoggedLeft} {a a' : Logged} {w w' c c' l l' : List Float} → LoggedAs left a w c l → LoggedAs left a' w' c' l' → (a ≡ a') × (w ≡ w') × (c ≡ c') × (l ≡ l')

@@ -20,6 +20,7 @@ pub mod Accepted
 pub mod OldContents
 pub mod Answered
 pub mod SplitRuns
+pub mod Recorded
 pub mod LoggedRuns
 pub mod Groups
 pub mod Unreadable

@@ -37,7 +37,7 @@ same-fact p h = rw (h, eq-eqb _ _ (joined-long p h)) (or-none (not (eqb (length 
     or-none true = refl
     or-none false = refl
 
-same-facts : (p : SplitProblem) (work cone : ℕ) → slicesFit p ≡ true → splitFacts p work cone ≡ facts (joinedProblem p) work cone
+pub same-facts : (p : SplitProblem) (work cone : ℕ) → slicesFit p ≡ true → splitFacts p work cone ≡ facts (joinedProblem p) work cone
 same-facts p work cone h = rw (same-fact p h)
 
 split-refusal-is : (p : SplitProblem) (work cone : ℕ) → splitRefusal p work cone ≡ asRefusal (firstOf (splitFacts p work cone))

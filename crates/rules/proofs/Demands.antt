@@ -25,7 +25,7 @@ use Rattle.rules.specs.declared.Word.the-variants.{Bad}
 use Rattle.rules.specs.Refusals.{Fact, facts, tooLarge, badCone, refusal, readProblem, plainProblem, numberOf, turnedAway, solved, SolveOutcome}
 use Rattle.rules.specs.Split.{SplitProblem, slicesFit, joinedProblem, plainSplit, splitFacts, splitRefusal, splitSolved, SplitOutcome}
 use Rattle.rules.specs.Progress.{isDue, untouched, withLog, LoggedLeft, loggedSolved, splitLogged, LoggedAs, LoggedOutcome, SplitLoggedOutcome}
-use Rattle.rules.specs.Demands.{NoneHolds, NumberedFrom, GivenExactly, TurnedAwayExactly, SplitTurnedAwayExactly, AsJoinedOrInvalid, GoesByTheRules, EndsFirst, GoesOnExactly, ConvergedExactly, RotationsBounded, AnsweredByTheRules, OldContentsChangeNothing, SplitOldContentsChangeNothing, PlacesBeyondKept, SplitPlacesBeyondKept, AtRow, dueUpTo, RecordedByTheRules, OldContentsOfThree, SplitOldContentsOfThree}
+use Rattle.rules.specs.Demands.{NoneHolds, NumberedFrom, GivenExactly, TurnedAwayExactly, SplitTurnedAwayExactly, AsJoinedOrInvalid, GoesByTheRules, EndsFirst, GoesOnExactly, ConvergedExactly, RotationsBounded, AnsweredByTheRules, OldContentsChangeNothing, SplitOldContentsChangeNothing, PlacesBeyondKept, SplitPlacesBeyondKept, withPeriod, withSplitPeriod, SameButForTheLog, AtRow, dueUpTo, RecordedByTheRules, OldContentsOfThree, SplitOldContentsOfThree}
 use Rattle.rules.proofs.Refusals as Refusals
 use Rattle.rules.proofs.Run as Run
 use Rattle.rules.proofs.Converged as Converged
@@ -40,6 +40,7 @@ use Rattle.rules.proofs.Unreadable as Unreadable
 use Rattle.rules.proofs.GroupedRuns as GroupedRuns
 use Rattle.rules.proofs.Due as Due
 use Rattle.rules.proofs.LoggedRuns as LoggedRuns
+use Rattle.rules.proofs.AnyPeriod as AnyPeriod
 
 -- ---- demand 1
 
@@ -215,8 +216,8 @@ due-steps = Due.due-steps
 pub no-period-no-steps : (k : ℕ) → dueUpTo 0 k ≡ 0
 no-period-no-steps = Due.no-period-no-steps
 
--- "Neither the period nor this buffer's contents or length may alter verdict, k, q, work or cone work": what `solve_logged` may answer and leave of these is what
--- `solve` may, so that demands 1 to 3 carry over
+-- "a third buffer of f64 is lent": but for the record and its counts, what may be answered and left is what `solve` may answer and leave, so that demands 1 to 3
+-- carry over
 pub logged-outcome-is-the-plain : (p : Problem) (work cone log : List Float) (answer : Logged) (work' cone' log' : List Float) → LoggedOutcome p work cone log answer work' cone' log' → SolveOutcome p work cone (answer .answer) work' cone'
 logged-outcome-is-the-plain = LoggedRuns.logged-outcome-is-the-plain
 
@@ -249,6 +250,20 @@ log-as-long = LoggedRuns.log-as-long
 
 pub split-log-as-long : (p : SplitProblem) (work cone log : List Float) → length (splitLogged p work cone log .log) ≡ length log
 split-log-as-long = LoggedRuns.split-log-as-long
+
+-- "Neither the period nor this buffer's contents or length may alter verdict, k, q, work or cone work"
+pub neither-period-nor-log-alters : (p : Problem) (period period' : ℕ) (work cone log log' : List Float) → SameButForTheLog (loggedSolved (withPeriod period p) work cone log) (loggedSolved (withPeriod period' p) work cone log')
+neither-period-nor-log-alters = AnyPeriod.neither-period-nor-log-alters
+
+pub split-neither-period-nor-log-alters : (p : SplitProblem) (period period' : ℕ) (work cone log log' : List Float) → SameButForTheLog (splitLogged (withSplitPeriod period p) work cone log) (splitLogged (withSplitPeriod period' p) work cone log')
+split-neither-period-nor-log-alters = AnyPeriod.split-neither-period-nor-log-alters
+
+-- the same of the run without a record
+pub any-period : (p : Problem) (period : ℕ) (work cone : List Float) → solved (withPeriod period p) work cone ≡ solved p work cone
+any-period = AnyPeriod.any-period
+
+pub any-split-period : (p : SplitProblem) (period : ℕ) (work cone : List Float) → splitSolved (withSplitPeriod period p) work cone ≡ splitSolved p work cone
+any-split-period = AnyPeriod.any-split-period
 
 -- "the old-contents law now covers three buffers"
 pub old-contents-of-three : (p : Problem) (work cone log work' cone' log' : List Float) → refusal p (length work) (length cone) ≡ Accepted → refusal p (length work') (length cone') ≡ Accepted → OldContentsOfThree p work cone log work' cone' log'

@@ -23,7 +23,7 @@ use Rattle.rules.proofs.Recorded.{recorded}
 use Rattle.rules.proofs.SplitRuns.{same-facts, same-refusal, split-runs-as-joined, slices-fit-if-none-holds, slices-fit-if-accepted}
 
 module _ (p : Problem) (work cone log : List Float) where
-  logged-is : loggedSolved p work cone log ≡ withLog (solved p work cone) (logOf (refusal p (length work) (length cone)) (readProblem p) log)
+  pub logged-is : loggedSolved p work cone log ≡ withLog (solved p work cone) (logOf (refusal p (length work) (length cone)) (readProblem p) log)
   unfolding loggedSolved
   logged-is = refl
 
@@ -95,7 +95,7 @@ old-contents-of-three p work cone log work' cone' log' e e' =
 -- ---- a problem whose A stands in two slices
 
 module _ (p : SplitProblem) (work cone log : List Float) where
-  split-logged-is : splitLogged p work cone log ≡ withLog (splitSolved p work cone) (logOf (splitRefusal p (length work) (length cone)) (readProblem (joinedProblem p)) log)
+  pub split-logged-is : splitLogged p work cone log ≡ withLog (splitSolved p work cone) (logOf (splitRefusal p (length work) (length cone)) (readProblem (joinedProblem p)) log)
   unfolding splitLogged
   split-logged-is = refl
 

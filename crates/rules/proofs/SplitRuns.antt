@@ -108,7 +108,7 @@ module _ (p : SplitProblem) (work cone : List Float) where
   split-numbered : NumberedFrom numberOf 1 (splitFacts p (length work) (length cone))
   split-numbered = (refl, (refl, (refl, (refl, (refl, (refl, tt))))))
 
-  split-solved-is : splitSolved p work cone ≡ leftAfter (asRefusal (firstOf (splitFacts p (length work) (length cone)))) (leftBy (readProblem (joinedProblem p)) work cone (run (readProblem (joinedProblem p)))) work cone
+  pub split-solved-is : splitSolved p work cone ≡ leftAfter (asRefusal (firstOf (splitFacts p (length work) (length cone)))) (leftBy (readProblem (joinedProblem p)) work cone (run (readProblem (joinedProblem p)))) work cone
   unfolding splitSolved
   split-solved-is = rw (split-refusal-is p (length work) (length cone))
 

@@ -20,7 +20,7 @@ use Rattle.rules.specs.Problem.{Problem, Embed, embed}
 use Rattle.rules.specs.Step.{State, Stepped, movedX, projected, tauTaken, movedY, updated}
 use Rattle.rules.specs.Criteria.{judged}
 use Rattle.rules.specs.Prepare.{dpTauOf, dpSigmaOf, groupedX, prepared, preparedNorms}
-use Rattle.rules.specs.Run.{WholeStep, wholeStep, verdict, allowance, pieceFrom, Ended, Left, run, leftBy}
+use Rattle.rules.specs.Run.{WholeStep, wholeStep, verdict, allowance, Piece, goingOn, pieceFrom, Ended, Left, run, leftBy}
 use Rattle.rules.specs.Refusals.{badParam, tooLarge, invalidOp, badCone, notFinite, workShortage, facts, readProblem, solved}
 use Rattle.rules.specs.Split.{SplitProblem, joinedProblem, invalidSplit, splitFacts, splitSolved}
 use Rattle.rules.specs.Progress.{Log, withLog, loggedSolved, splitLogged}
@@ -92,6 +92,9 @@ step-is : (p : Problem) (ns : Norms) (s : State) → wholeStep p ns s ≡ judged
 unfolding wholeStep
 step-is p ns s = refl
 
+goes-same : {v v' : Verdict} {rest rest' : Piece} → v ≡ v' → rest ≡ rest' → (k q : ℕ) (s : State) → goingOn v rest k q s ≡ goingOn v' rest' k q s
+goes-same e f k q s = λ i. goingOn (e i) (f i) k q s
+
 module _ (p : Problem) (period : ℕ) where
   abbrev other : Problem
   other = withPeriod period p
@@ -127,7 +130,8 @@ module _ (p : Problem) (period : ℕ) where
   same-piece (suc more) ns k q s =
       let t = wholeStep p ns s in
       piece-more other ns more k q s t (sym (same-step ns s))
-      ∙ rw (same-verdict (p .par) period (k + 1) (t .failure) (t .criteria), same-piece more ns (k + 1) (q + t .rotations) (t .state)) (sym (piece-more p ns more k q s t refl))
+      ∙ goes-same (same-verdict (p .par) period (k + 1) (t .failure) (t .criteria)) (same-piece more ns (k + 1) (q + t .rotations) (t .state)) (k + 1) (q + t .rotations) (t .state)
+      ∙ sym (piece-more p ns more k q s t refl)
 
   same-prepared : prepared other ≡ prepared p
   unfolding prepared

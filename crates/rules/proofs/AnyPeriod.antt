@@ -16,10 +16,10 @@ use Rattle.rules.specs.Parameters.{withLogPeriod}
 use Rattle.rules.specs.Blocks.{places}
 use Rattle.rules.specs.Projections.{projPSD, projBlock}
 use Rattle.rules.specs.Product.{Failure, none, block, Passed, projAll}
-use Rattle.rules.specs.Problem.{Problem, Embed, embed}
+use Rattle.rules.specs.Problem.{Problem, embed}
 use Rattle.rules.specs.Step.{State, Stepped, movedX, projected, tauTaken, movedY, updated}
 use Rattle.rules.specs.Criteria.{judged}
-use Rattle.rules.specs.Prepare.{dpTauOf, dpSigmaOf, groupedX, prepared, preparedNorms}
+use Rattle.rules.specs.Prepare.{prepared, preparedNorms}
 use Rattle.rules.specs.Run.{WholeStep, wholeStep, verdict, allowance, Piece, goingOn, pieceFrom, Ended, Left, run, leftBy}
 use Rattle.rules.specs.Refusals.{badParam, tooLarge, invalidOp, badCone, notFinite, workShortage, facts, readProblem, solved}
 use Rattle.rules.specs.Split.{SplitProblem, joinedProblem, invalidSplit, splitFacts, splitSolved}
@@ -59,14 +59,14 @@ module _ (par : SolverParam) (period : ℕ) where
 
 -- ---- one step
 
--- what a step is of its parts, and of its update
-abbrev stepOf : (State → State) → (List Float → List Float → Passed) → (List Float → List Float) → (State → State) → State → Stepped
-stepOf moveX project takeTau moveY s =
-    let s' = moveX s in
+-- what a step makes of the way in which it projects, and what its criteria make of that
+abbrev stepBy : Problem → (List Float → List Float → Passed) → State → Stepped
+stepBy p project s =
+    let s' = movedX p s in
     let q = project (s' .x) (s' .cone) in
     let taken : State =
     record {
-      x = takeTau (q .cone);
+      x = tauTaken p (q .cone);
       y = s' .y;
       dpTau = s' .dpTau;
       dpSigma = s' .dpSigma;
@@ -74,23 +74,15 @@ stepOf moveX project takeTau moveY s =
       tx = s' .tx;
       cone = q .work;
     } in
-    record { state = moveY taken; rotations = q .rotations; failure = q .failure }
+    record { state = movedY p taken; rotations = q .rotations; failure = q .failure }
 
-abbrev judgedStep : Embed → Float → Norms → Stepped → WholeStep
-judgedStep k eps ns u =
+abbrev judgedStep : Problem → Norms → Stepped → WholeStep
+judgedStep p ns u =
     let v = u .state in
-    let j = judged k eps ns (v .x) (v .rx) in
+    let j = judged (embed p) (p .par .«eps_zero») ns (v .x) (v .rx) in
     let after : State =
     record { x = v .x; y = v .y; dpTau = v .dpTau; dpSigma = v .dpSigma; rx = j .rx; tx = v .tx; cone = v .cone } in
     record { state = after; rotations = u .rotations; failure = u .failure; criteria = j .criteria }
-
-updated-is : (p : Problem) (s : State) → updated p s ≡ stepOf (movedX p) (projected p) (tauTaken p) (movedY p) s
-unfolding updated
-updated-is p s = refl
-
-step-is : (p : Problem) (ns : Norms) (s : State) → wholeStep p ns s ≡ judgedStep (embed p) (p .par .«eps_zero») ns (updated p s)
-unfolding wholeStep
-step-is p ns s = refl
 
 goes-same : {v v' : Verdict} {rest rest' : Piece} → v ≡ v' → rest ≡ rest' → (k q : ℕ) (s : State) → goingOn v rest k q s ≡ goingOn v' rest' k q s
 goes-same e f k q s = λ i. goingOn (e i) (f i) k q s
@@ -99,29 +91,17 @@ module _ (p : Problem) (period : ℕ) where
   abbrev other : Problem
   other = withPeriod period p
 
-  same-movedX : movedX other ≡ movedX p
-  unfolding movedX
-  same-movedX = refl
-
   same-projected : (x cone : List Float) → projected other x cone ≡ projected p x cone
   unfolding projected
   same-projected x cone = simp (same-pass (p .par) period)
 
-  same-tauTaken : tauTaken other ≡ tauTaken p
-  unfolding tauTaken
-  same-tauTaken = refl
-
-  same-movedY : movedY other ≡ movedY p
-  unfolding movedY
-  same-movedY = refl
-
   same-updated : (s : State) → updated other s ≡ updated p s
-  same-updated s =
-      let projects : projected other ≡ projected p = λ i x cone. same-projected x cone i in
-      updated-is other s ∙ rw (same-movedX, projects, same-tauTaken, same-movedY) (sym (updated-is p s))
+  unfolding updated
+  same-updated s = λ i. stepBy p (λ x cone. same-projected x cone i) s
 
   same-step : (ns : Norms) (s : State) → wholeStep other ns s ≡ wholeStep p ns s
-  same-step ns s = step-is other ns s ∙ rw (same-updated s) (sym (step-is p ns s))
+  unfolding wholeStep
+  same-step ns s = λ i. judgedStep p ns (same-updated s i)
 
   -- ---- a run
 

@@ -4,14 +4,15 @@ use native.Mathlib.Nat.{le-div-iff-mul-le, div-lt-iff-lt-mul}
 use native.Mathlib.Omega.{arith}
 use mathlib.Core.Path.{_≡_, refl, sym, _∙_, ap}
 use mathlib.Core.Bool.{Bool, true, false, not, cond, _&&_}
-use mathlib.Core.List.{List, _++_, append-assoc}
+use mathlib.Core.List.{List, append-assoc}
 use borrow.Author.Tests.{leb-true, leb-false}
+use borrow.Rule.Slice.PartMut.{drop-put}
 use lib.Ieee.{Float}
-use lib.ListN.{length, take, drop, length-append, length-drop, take-append-drop}
-use lib.Seq.{take-at, drop-at, drop-drop, length-take-le}
+use lib.ListN.{length, take, drop}
+use lib.Seq.{drop-drop}
+use Rattle.rules.specs.declared.Answer.{Answer}
 use Rattle.rules.specs.declared.Criteria.{Criteria}
 use Rattle.rules.specs.declared.Criteria.the-variants.{Conv, Inf}
-use Rattle.rules.specs.declared.Answer.{Answer}
 use Rattle.rules.specs.declared.Ending.{Ending}
 use Rattle.rules.specs.declared.SolverParam.{SolverParam}
 use Rattle.rules.specs.declared.Verdict.the-variants.{Ends}
@@ -24,7 +25,7 @@ use Rattle.rules.specs.Run.{WholeStep, wholeStep, verdict, isConeFailure
 use Rattle.rules.specs.Progress.{isDue, rowOf, Log, untouched, rowFits, rowPut, logRow, logStep, logAfter}
 use Rattle.rules.specs.Demands.{stateAfter, step, tauAfter, dueUpTo, completed, rowAt, RecordedByTheRules}
 use Rattle.rules.proofs.Columns.{by-less}
-use Rattle.rules.proofs.Slices.{part-in-first}
+use Rattle.rules.proofs.Parts.{put, places as span, drop-rest, put-length, put-part, part-before}
 use Rattle.rules.proofs.Due.{none-due, due-more, due-as-before, due-place, row-up-to}
 use Rattle.rules.proofs.Run.{step-from, state-from, goes-on-exactly, ends-first}
 use Rattle.rules.proofs.Refusals.{verdict-cases}
@@ -32,38 +33,34 @@ use Rattle.rules.proofs.Progress.{step-without-row, step-with-row, row-
 
 -- ---- a row that is put in its place
 
+-- lent, and back with the row
+pub row-put : (w : ℕ) (row places : List Float) → rowPut w row places ≡ put (4 * w) (4 * w + 4) places row
+unfolding rowPut
+row-put w row places =
+    append-assoc (take (4 * w) places) row (drop (4 * w + 4) places)
+    ∙ rw (drop-rest (4 * w) (4 * w + 4) places (omega arith))
+
 module _ (w : ℕ) (row places : List Float) (four : length row ≡ 4) (fits : 4 * w + 4 ≤ length places) where
-  before-long : length (take (4 * w) places) ≡ 4 * w
-  before-long = length-take-le (4 * w) places (omega arith)
+  abbrev a : ℕ
+  a = 4 * w
 
-  up-to-long : length (take (4 * w) places ++ row) ≡ 4 * w + 4
-  up-to-long = rw (length-append, before-long, four)
-
-  put-is : rowPut w row places ≡ take (4 * w) places ++ (row ++ drop (4 * w + 4) places)
-  unfolding rowPut
-  put-is = append-assoc (take (4 * w) places) row (drop (4 * w + 4) places)
-
-  -- what lies after it stays
-  put-after : drop (4 * w + 4) (rowPut w row places) ≡ drop (4 * w + 4) places
-  unfolding rowPut
-  put-after = drop-at (take (4 * w) places ++ row) (drop (4 * w + 4) places) (4 * w + 4) up-to-long
+  as-many : length row ≡ a + 4 - a
+  as-many = omega arith
 
   put-long : length (rowPut w row places) ≡ length places
-  unfolding rowPut
-  put-long = length-append (take (4 * w) places ++ row) (drop (4 * w + 4) places) ∙ rw (up-to-long, length-drop (4 * w + 4) places) (omega arith)
+  put-long = rw (row-put w row places) (put-length a (a + 4) places row (omega arith) fits as-many)
 
-  put-there : part (4 * w) 4 (rowPut w row places) ≡ row
-  put-there = rw (put-is, drop-at (take (4 * w) places) (row ++ drop (4 * w + 4) places) (4 * w) before-long) (take-at row (drop (4 * w + 4) places) 4 four)
+  put-there : part a 4 (rowPut w row places) ≡ row
+  put-there = rw (row-put w row places, span a 4) (rw (span a 4) at (put-part a (a + 4) places row (omega arith) fits as-many))
 
-  -- and so do the rows before it
+  -- the rows before it stay, and what lies after it
   put-before : (j : ℕ) → j < w → part (4 * j) 4 (rowPut w row places) ≡ part (4 * j) 4 places
-  put-before j l =
-      let within : 4 * j + 4 ≤ length (take (4 * w) places) = rw before-long (omega arith) in
-      let new = part-in-first (take (4 * w) places) (row ++ drop (4 * w + 4) places) (4 * j) 4 within in
-      let old = part-in-first (take (4 * w) places) (drop (4 * w) places) (4 * j) 4 within in
-      rw put-is (new ∙ sym (rw (take-append-drop (4 * w) places) at old))
+  put-before j l = rw (row-put w row places) (part-before a (a + 4) places row (omega arith) fits as-many (4 * j) 4 (omega arith))
 
--- ---- a record, as far as i steps of which each has a row
+  put-after : drop (a + 4) (rowPut w row places) ≡ drop (a + 4) places
+  put-after = rw (row-put w row places) (drop-put a (a + 4) places row (omega arith) fits as-many)
+
+-- ---- a record after i steps, the row of step k being `row k`
 
 record KeptTo (period : ℕ) (row : ℕ → List Float) (log : List Float) (i : ℕ) (l : Log) : Type 0 where
   rows : (j : ℕ) → j < l .written → part (4 * j) 4 (l .places) ≡ row (1 + j * period)
@@ -72,7 +69,7 @@ record KeptTo (period : ℕ) (row : ℕ → List Float) (log : List Float) (i : 
   as-long : length (l .places) ≡ length log
   others-kept : drop (4 * l .written) (l .places) ≡ drop (4 * l .written) log
 
--- a row more fits where there is a place for it among the quarters, and then none was dropped
+-- where a row more fits none was dropped; where none fits, as many stand as ever
 one-more : (long w due : ℕ) → w ≡ min (long / 4) due → 4 * w + 4 ≤ long → (w ≡ due) × (w + 1 ≡ min (long / 4) (due + 1))
 one-more long w due is fits =
     let quarter : w + 1 ≤ long / 4 = le-div-iff-mul-le {k = 4} (omega arith) .1 (omega arith) in
@@ -162,21 +159,21 @@ module _ (p : Problem) (log : List Float) where
   abbrev period : ℕ
   period = p .par .«log_period»
 
-  -- the step, as the record reads it
-  t : ℕ → WholeStep
-  t i = wholeStep p (preparedNorms p) (stateAfter p i)
+  -- step i + 1, as the record reads it
+  made : ℕ → WholeStep
+  made i = wholeStep p (preparedNorms p) (stateAfter p i)
 
-  row-there : (i : ℕ) → rowOf (tauOf (embed p) (t i .state .x)) (t i .criteria) ≡ rowAt p (suc i)
-  unfolding t
+  row-there : (i : ℕ) → rowOf (tauOf (embed p) (made i .state .x)) (made i .criteria) ≡ rowAt p (suc i)
+  unfolding made
   row-there i =
       rw (state-from p (preparedNorms p) (prepared p) i, step-from p (preparedNorms p) (prepared p) i)
 
-  failure-there : (i : ℕ) → t i .failure ≡ step p (suc i) .failure
-  unfolding t
+  failure-there : (i : ℕ) → made i .failure ≡ step p (suc i) .failure
+  unfolding made
   failure-there i = rw (step-from p (preparedNorms p) (prepared p) i)
 
-  after-more : (i : ℕ) → logAfter p log (suc i) ≡ logStep p (suc i) (t i) (logAfter p log i)
-  unfolding t
+  after-more : (i : ℕ) → logAfter p log (suc i) ≡ logStep p (suc i) (made i) (logAfter p log i)
+  unfolding made
   after-more i =
       let none-behind : 0 + suc i ≡ suc i = omega arith in
       rw (log-more p (preparedNorms p) 0 (prepared p) (untouched log) i, none-behind)
@@ -185,18 +182,18 @@ module _ (p : Problem) (log : List Float) where
   after-failure : (i : ℕ) → isNone (step p (suc i) .failure) ≡ false → logAfter p log (suc i) ≡ logAfter p log i
   after-failure i fails =
       after-more i
-      ∙ step-without-row p (suc i) (t i) (logAfter p log i) (and-false (isDue period (suc i)) (isNone (t i .failure)) (rw (failure-there i) fails))
+      ∙ step-without-row p (suc i) (made i) (logAfter p log i) (and-false (isDue period (suc i)) (isNone (made i .failure)) (rw (failure-there i) fails))
 
   kept-more : (i : ℕ) → isNone (step p (suc i) .failure) ≡ true → KeptTo period (rowAt p) log i (logAfter p log i) → KeptTo period (rowAt p) log (suc i) (logAfter p log (suc i))
   kept-more i none-fails k = rw (after-more i) (go (isDue period (suc i)) refl)
     where
-      test : (b : Bool) → isDue period (suc i) ≡ b → isDue period (suc i) && isNone (t i .failure) ≡ b
+      test : (b : Bool) → isDue period (suc i) ≡ b → isDue period (suc i) && isNone (made i .failure) ≡ b
       test true e = rw (e, failure-there i) none-fails
       test false e = rw e
 
-      go : (b : Bool) → isDue period (suc i) ≡ b → KeptTo period (rowAt p) log (suc i) (logStep p (suc i) (t i) (logAfter p log i))
-      go true e = rw (step-with-row p (suc i) (t i) (logAfter p log i) (test true e), row-there i) (kept-with e (four-places (tauAfter p (suc i)) (step p (suc i) .criteria)) k)
-      go false e = rw (step-without-row p (suc i) (t i) (logAfter p log i) (test false e)) (kept-without e k)
+      go : (b : Bool) → isDue period (suc i) ≡ b → KeptTo period (rowAt p) log (suc i) (logStep p (suc i) (made i) (logAfter p log i))
+      go true e = rw (step-with-row p (suc i) (made i) (logAfter p log i) (test true e), row-there i) (kept-with e (four-places (tauAfter p (suc i)) (step p (suc i) .criteria)) k)
+      go false e = rw (step-without-row p (suc i) (made i) (logAfter p log i) (test false e)) (kept-without e k)
 
   -- as far as no step fails
   kept-to : (i : ℕ) → ((j : ℕ) → 1 ≤ j → j ≤ i → isNone (step p j .failure) ≡ true) → KeptTo period (rowAt p) log i (logAfter p log i)

@@ -279,6 +279,12 @@ pub record SameButForTheLog (one other : LoggedLeft) : Type 0 where
   pub work : one .work ≡ other .work
   pub cone : one .cone ≡ other .cone
 
+-- "At steps 1, 1 + period, 1 + 2·period and so on", and "0 means none": k is one of these
+pub record AtRow (period k : ℕ) : Type 0 where
+  pub some : 1 ≤ period
+  pub before : ℕ
+  pub is : k ≡ 1 + before * period
+
 -- how many of the first k steps are due
 unfoldable pub dueUpTo : ℕ → ℕ → ℕ
 dueUpTo period zero = 0

@@ -18,13 +18,13 @@ enum-told-2 : tie.Need-enum-told-2
 enum-told-2 c = search needs
 
 returns : tie.Need-returns
-returns c = λ said k q is. answer-ends (sym (c .before .before .before .before .ran .given .1) ∙ is) (c .before .v .given .1)
+returns c = λ said k q rows is. c @logged .ensures ∙ answer-ends (sym (c @ran .given .1) ∙ is) (c @v .given .1)
 
 returns-2 : tie.Need-returns-2
-returns-2 c = λ said k q is. answer-halts (sym (c .before .before .before .ran .given .1) ∙ is) (c .enum-told .given .1)
+returns-2 c = λ said k q rows is. c @logged .ensures ∙ answer-halts (sym (c @ran .given .1) ∙ is) (c @enum-told .given .1)
 
 returns-3 : tie.Need-returns-3
-returns-3 c = λ said k q is. absurd (none-made (sym (c .enum-told2 .given .1) ∙ is))
+returns-3 c = λ said k q rows is. absurd (none-made (sym (c @enum-told2 .given .1) ∙ is))
 
 pub answer-of-spec : {M : Type 1} → statement M
 answer-of-spec =

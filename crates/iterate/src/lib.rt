@@ -161,15 +161,17 @@ fn log_row(tau: f64, found: Criteria, rows: Recorded, k: u64, log: &mut [f64]) -
 {
     let written = rows.written;
     let dropped = rows.dropped;
+    let one_more_written = written + 1;
+    let one_more_dropped = dropped + 1;
     if progress::put_row(written, tau, found, log) {
         return Recorded {
-            written: written + 1,
+            written: one_more_written,
             dropped,
         };
     }
     Recorded {
         written,
-        dropped: dropped + 1,
+        dropped: one_more_dropped,
     }
 }
 

@@ -17,7 +17,7 @@ same-length-2 : tie.Need-same-length-2
 same-length-2 c = search needs
 
 returns : tie.Need-returns
-returns c = logged-outcome-is-the-plain _ _ _ _ _ _ _ _ (c @solve-logged .ensures)
+returns c = logged-outcome-is-the-plain _ _ _ _ _ _ _ _ (c .before .before .before .before .before .before .solve-logged .ensures)
 
 pub solve-spec : {M : Type 1} → statement M
 solve-spec =

@@ -25,13 +25,13 @@ slice-aggregate-accepted c = search needs
 
 accepted-requires : tie.Need-accepted-requires
 accepted-requires c κs =
-    let k = c @START .args in
-    handed (k .rows .0) (k .cols .0) (k .storage) (k .c .now) (k .a .now) (k .b .now) (k .words .now) (k .par) (k .work .now) (k .cone-work .now) _ (c @check .ensures) (c @enum-told .given .1) _ (c @read-eps .ensures)
+    let k = c .before .before .before .before .before .before .before .before .before .before .before .before .before .before .before .args in
+    handed (k .rows .0) (k .cols .0) (k .storage) (k .c .now) (k .a .now) (k .b .now) (k .words .now) (k .par) (k .work .now) (k .cone-work .now) _ (c .before .before .before .before .before .before .before .check .ensures) (c .before .before .before .before .before .enum-told .given .1) _ (c .before .before .before .before .read-eps .ensures)
 
 returns : tie.Need-returns
 returns c =
-    let k = c @START .args in
-    turned-away (problemOf (k .rows .0) (k .cols .0) (k .storage) (k .c .now) (k .a .now) (k .b .now) (k .words .now) (k .par)) (k .work .now) (k .cone-work .now) (k .log .now) _ _ (c @check .ensures) (c @found .given .1) _ (c @turned-away .ensures)
+    let k = c .before .before .before .before .before .before .before .before .before .before .before .before .args in
+    turned-away (problemOf (k .rows .0) (k .cols .0) (k .storage) (k .c .now) (k .a .now) (k .b .now) (k .words .now) (k .par)) (k .work .now) (k .cone-work .now) (k .log .now) _ _ (c .before .before .before .before .check .ensures) (c .before .before .found .given .1) _ (c .turned-away .ensures)
 
 same-length : tie.Need-same-length
 same-length c = search needs
@@ -39,10 +39,13 @@ same-length c = search needs
 same-length-2 : tie.Need-same-length-2
 same-length-2 c = search needs
 
+same-length-3 : tie.Need-same-length-3
+same-length-3 c = search needs
+
 returns-2 : tie.Need-returns-2
 returns-2 c =
-    let k = c @START .args in
-    went-through (k .rows .0) (k .cols .0) (k .storage) (k .c .now) (k .a .now) (k .b .now) (k .words .now) (k .par) (k .work .now) (k .cone-work .now) _ (c @check .ensures) (c @enum-told .given .1) _ (c @read-eps .ensures) (k .log .now) _ _ _ _ (c @accepted .ensures)
+    let k = c .before .before .before .before .before .before .before .before .before .before .before .before .before .before .before .before .before .before .before .before .before .before .args in
+    went-through (k .rows .0) (k .cols .0) (k .storage) (k .c .now) (k .a .now) (k .b .now) (k .words .now) (k .par) (k .work .now) (k .cone-work .now) _ (c .before .before .before .before .before .before .before .before .before .before .before .before .before .before .check .ensures) (c .before .before .before .before .before .before .before .before .before .before .before .before .enum-told .given .1) _ (c .before .before .before .before .before .before .before .before .before .before .before .read-eps .ensures) (k .log .now) _ _ _ _ (c .before .before .before .before .before .before .accepted .ensures)
 
 pub solve-logged-spec : {M : Type 1} → statement M
 solve-logged-spec =
@@ -58,4 +61,5 @@ solve-logged-spec =
     returns
     same-length
     same-length-2
+    same-length-3
     returns-2)

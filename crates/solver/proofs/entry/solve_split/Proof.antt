@@ -17,7 +17,7 @@ same-length-2 : tie.Need-same-length-2
 same-length-2 c = search needs
 
 returns : tie.Need-returns
-returns c = split-logged-outcome-is-the-plain _ _ _ _ _ _ _ _ (c @solve-split-logged .ensures)
+returns c = split-logged-outcome-is-the-plain _ _ _ _ _ _ _ _ (c .before .before .before .before .before .before .solve-split-logged .ensures)
 
 pub solve-split-spec : {M : Type 1} → statement M
 solve-split-spec =

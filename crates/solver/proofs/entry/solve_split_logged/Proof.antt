@@ -22,13 +22,13 @@ read-eps-requires c κs = search needs
 
 accepted-requires : tie.Need-accepted-requires
 accepted-requires c κs =
-    let k = c @START .args in
-    split-handed (k .rows .0) (k .cols .0) (k .first .0) (k .c .now) (k .factory .now) (k .lesson .now) (k .b .now) (k .words .now) (k .par) (k .work .now) (k .cone-work .now) _ (c @check-split .ensures) (c @enum-told .given .1) _ (c @read-eps .ensures)
+    let k = c .before .before .before .before .before .before .before .before .before .before .before .before .before .before .before .args in
+    split-handed (k .rows .0) (k .cols .0) (k .first .0) (k .c .now) (k .factory .now) (k .lesson .now) (k .b .now) (k .words .now) (k .par) (k .work .now) (k .cone-work .now) _ (c .before .before .before .before .before .before .check-split .ensures) (c .before .before .before .before .enum-told .given .1) _ (c .before .before .before .read-eps .ensures)
 
 returns : tie.Need-returns
 returns c =
-    let k = c @START .args in
-    split-turned-away (splitOf (k .rows .0) (k .cols .0) (k .first .0) (k .c .now) (k .factory .now) (k .lesson .now) (k .b .now) (k .words .now) (k .par)) (k .work .now) (k .cone-work .now) (k .log .now) _ _ (c @check-split .ensures) (c @found .given .1) _ (c @turned-away .ensures)
+    let k = c .before .before .before .before .before .before .before .before .before .before .before .before .before .args in
+    split-turned-away (splitOf (k .rows .0) (k .cols .0) (k .first .0) (k .c .now) (k .factory .now) (k .lesson .now) (k .b .now) (k .words .now) (k .par)) (k .work .now) (k .cone-work .now) (k .log .now) _ _ (c .before .before .before .before .check-split .ensures) (c .before .before .found .given .1) _ (c .turned-away .ensures)
 
 same-length : tie.Need-same-length
 same-length c = search needs
@@ -36,10 +36,13 @@ same-length c = search needs
 same-length-2 : tie.Need-same-length-2
 same-length-2 c = search needs
 
+same-length-3 : tie.Need-same-length-3
+same-length-3 c = search needs
+
 returns-2 : tie.Need-returns-2
 returns-2 c =
-    let k = c @START .args in
-    split-went-through (k .rows .0) (k .cols .0) (k .first .0) (k .c .now) (k .factory .now) (k .lesson .now) (k .b .now) (k .words .now) (k .par) (k .work .now) (k .cone-work .now) _ (c @check-split .ensures) (c @enum-told .given .1) _ (c @read-eps .ensures) (k .log .now) _ _ _ _ (c @accepted .ensures)
+    let k = c .before .before .before .before .before .before .before .before .before .before .before .before .before .before .before .before .before .before .before .before .before .before .args in
+    split-went-through (k .rows .0) (k .cols .0) (k .first .0) (k .c .now) (k .factory .now) (k .lesson .now) (k .b .now) (k .words .now) (k .par) (k .work .now) (k .cone-work .now) _ (c .before .before .before .before .before .before .before .before .before .before .before .before .before .check-split .ensures) (c .before .before .before .before .before .before .before .before .before .before .before .enum-told .given .1) _ (c .before .before .before .before .before .before .before .before .before .before .read-eps .ensures) (k .log .now) _ _ _ _ (c .before .before .before .before .before .before .accepted .ensures)
 
 pub solve-split-logged-spec : {M : Type 1} → statement M
 solve-split-logged-spec =
@@ -54,4 +57,5 @@ solve-split-logged-spec =
     returns
     same-length
     same-length-2
+    same-length-3
     returns-2)

@@ -12,10 +12,10 @@ enum-told : tie.Need-enum-told
 enum-told c = search needs
 
 returns : tie.Need-returns
-returns c = λ ns is. done-once (sym (c @prepared .given .1) ∙ is)
+returns c = λ ns is. done-once (sym (c .before .prepared .given .1) ∙ is)
 
 returns-2 : tie.Need-returns-2
-returns-2 c = λ ns is. absurd (none-done (sym (c @enum-told .given .1) ∙ is))
+returns-2 c = λ ns is. absurd (none-done (sym (c .enum-told .given .1) ∙ is))
 
 pub norms-of-spec : {M : Type 1} → statement M
 norms-of-spec =

@@ -6,7 +6,7 @@ use Rattle.progress.proofs.put_row.Statement.{statement}
 use Rattle.progress.proofs.put_row.Tie as tie
 
 returns : tie.Need-returns
-returns c = no-room _ _ _ (c .if1 .taken)
+returns c = no-room _ _ _ (omega (arith, c .if1 .taken))
 
 row-of-requires : tie.Need-row-of-requires
 row-of-requires c κs = search needs
@@ -30,7 +30,7 @@ part-copy-start : tie.Need-part-copy-start
 part-copy-start c = search needs
 
 part-copy-end : tie.Need-part-copy-end
-part-copy-end c = search needs
+part-copy-end c = omega (arith, c .before .before .if1 .left)
 
 copy-requires : tie.Need-copy-requires
 copy-requires c κs = search needs

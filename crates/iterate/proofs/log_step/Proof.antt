@@ -1,6 +1,8 @@
 -- `iterate::log_step` meets its contract.
-use mathlib.Core.Path.{sym, _∙_}
+use mathlib.Core.Path.{_≡_, sym, _∙_}
+use mathlib.Core.Bool.{true, false}
 use borrow.Author.Needs.{needs}
+use Rattle.rules.specs.Progress.{isDue}
 use Rattle.iterate.proofs.log_step.Statement.{statement}
 use Rattle.iterate.proofs.log_step.Tie as tie
 
@@ -20,7 +22,10 @@ same-length : tie.Need-same-length
 same-length c = search needs
 
 returns : tie.Need-returns
-returns c = rw (c .before .before .before .before .before .before .before .before .t .given .1, sym (c .before .before .before .before .before .before .is-due .ensures) ∙ c .before .before .before .before .before .if1 .taken, ← c .before .before .before .before .tau-of .ensures) (c .before .before .log-row .ensures)
+returns c =
+    let k = c .before .before .before .before .before .before .before .before .before .before .before .before .args in
+    let due : isDue (k .par .«log_period») (k .k) ≡ true = sym (c .before .before .before .before .before .before .is-due .ensures) ∙ c .before .before .before .before .before .if1 .taken in
+    rw (c .before .before .before .before .before .before .before .before .t .given .1, due, ← c .before .before .before .before .tau-of .ensures) (c .before .before .log-row .ensures)
 
 enum-told : tie.Need-enum-told
 enum-told c = search needs
@@ -29,7 +34,10 @@ enum-told-2 : tie.Need-enum-told-2
 enum-told-2 c = search needs
 
 returns-2 : tie.Need-returns-2
-returns-2 c = rw (c .before .before .before .t .given .1, sym (c .before .is-due .ensures) ∙ c .if1 .left)
+returns-2 c =
+    let k = c .before .before .before .before .before .before .before .args in
+    let other : isDue (k .par .«log_period») (k .k) ≡ false = sym (c .before .is-due .ensures) ∙ c .if1 .left in
+    rw (c .before .before .before .t .given .1, other)
 
 returns-3 : tie.Need-returns-3
 returns-3 c = rw (c .enum-told .given .1)

@@ -19,7 +19,7 @@ use Rattle.rules.proofs.Progress.{row-written, row-dropped}
 use Rattle.whole_step.specs.declared.StepAnswer.{StepAnswer}
 use Rattle.whole_step.specs.declared.StepAnswer.the-variants.{Judged, No}
 use Rattle.whole_step.specs.WholeStep.{leftByStep, stepAnswer, WholeStepOutcome}
-use Rattle.iterate.specs.declared.Recorded.{Recorded}
+use Rattle.iterate.specs.declared.RowCounts.{RowCounts}
 use Rattle.iterate.specs.Record.{logWith, logAnswered}
 
 module _ (p : Problem) (ns : Norms) (k : ℕ) (s : State) (log : Log) where
@@ -49,13 +49,13 @@ module _ {fits : Bool} {p : Problem} {ns : Norms} {s : State} {answer : StepAnsw
 
 -- ---- one more row, by what putting it answered
 
-module _ (tau : Float) (found : Criteria) (rows : Recorded) {log log' : List Float} {put : Bool} (o : Outcome (rowFits (rows .written) log) (rowPut (rows .written) (rowOf tau found) log) log put log') where
-  pub counted-written : put ≡ true → logWith (record { written = rows .written + 1; dropped = rows .dropped }) log' ≡ logRow (rowOf tau found) (logWith rows log)
+module _ (tau : Float) (found : Criteria) (counts : RowCounts) {log log' : List Float} {put : Bool} (o : Outcome (rowFits (counts .written) log) (rowPut (counts .written) (rowOf tau found) log) log put log') where
+  pub counted-written : put ≡ true → logWith (record { written = counts .written + 1; dropped = counts .dropped }) log' ≡ logRow (rowOf tau found) (logWith counts log)
   counted-written e =
-      let fits : rowFits (rows .written) log ≡ true = sym (o .answered) ∙ e in
-      rw (row-written (rowOf tau found) (logWith rows log) fits, ruled-if-fits o fits)
+      let fits : rowFits (counts .written) log ≡ true = sym (o .answered) ∙ e in
+      rw (row-written (rowOf tau found) (logWith counts log) fits, ruled-if-fits o fits)
 
-  pub counted-dropped : put ≡ false → logWith (record { written = rows .written; dropped = rows .dropped + 1 }) log' ≡ logRow (rowOf tau found) (logWith rows log)
+  pub counted-dropped : put ≡ false → logWith (record { written = counts .written; dropped = counts .dropped + 1 }) log' ≡ logRow (rowOf tau found) (logWith counts log)
   counted-dropped e =
-      let full : rowFits (rows .written) log ≡ false = sym (o .answered) ∙ e in
-      rw (row-dropped (rowOf tau found) (logWith rows log) full, o .left, full)
+      let full : rowFits (counts .written) log ≡ false = sym (o .answered) ∙ e in
+      rw (row-dropped (rowOf tau found) (logWith counts log) full, o .left, full)

@@ -34,7 +34,7 @@ use Rattle.iterate.specs.declared.StepSaid.{StepSaid}
 use Rattle.iterate.specs.declared.StepSaid.the-variants.{Said, No as NotSaid}
 use Rattle.iterate.specs.Said.{saidBy}
 use Rattle.iterate.specs.Record.{logAnswered, HasTau}
-use Rattle.iterate.specs.Iterate.{pieceOf, beforeLast, recordOf, rowsOf, IterateOutcome}
+use Rattle.iterate.specs.Iterate.{pieceOf, beforeLast, recordOf, countsOf, IterateOutcome}
 use Rattle.iterate.proofs.Steps.{SteppedBy, SaidOutcome, said-outcome, said-by, nothing-said, perStep}
 use Rattle.iterate.proofs.Logged.{judged-fits, answered-logged, unanswered-logged}
 use Rattle.iterate.proofs.Runs.{Running, running-start, running-counts, running-more, running-end, running-halts}
@@ -134,10 +134,10 @@ module _ {par : SolverParam} {shape : Shape} {c : List Float} {a : Slices} {b : 
     pub step-counts : {said : Verdict} {made : ℕ} → heard ≡ Said said made → made ≤ perStep
     step-counts is = let w = said-by o is in running-counts (g .running) (w .1) (row-is (w .0)) (cones-now g (w .0))
 
-    pub step-ends : {said : Verdict} {made : ℕ} {e : Ending} → heard ≡ Said said made → said ≡ Ends e → IterateOutcome (stepFits par shape c a b words from) p ns behind given from places (Made (Ends e) (k + 1) (q + made) (rowsOf log')) to (log' .places)
+    pub step-ends : {said : Verdict} {made : ℕ} {e : Ending} → heard ≡ Said said made → said ≡ Ends e → IterateOutcome (stepFits par shape c a b words from) p ns behind given from places (Made (Ends e) (k + 1) (q + made) (countsOf log')) to (log' .places)
     step-ends {e = e} is h = let w = said-by o is in going-end g (w .0) (running-end (g .running) (w .1) (row-is (w .0)) e h)
 
-    pub step-halts : {said : Verdict} {made : ℕ} → heard ≡ Said said made → said ≡ GoesOn → left ≤ 1 → IterateOutcome (stepFits par shape c a b words from) p ns behind given from places (Made GoesOn (k + 1) (q + made) (rowsOf log')) to (log' .places)
+    pub step-halts : {said : Verdict} {made : ℕ} → heard ≡ Said said made → said ≡ GoesOn → left ≤ 1 → IterateOutcome (stepFits par shape c a b words from) p ns behind given from places (Made GoesOn (k + 1) (q + made) (countsOf log')) to (log' .places)
     step-halts is h l = let w = said-by o is in going-end g (w .0) (running-halts (g .running) (w .1) (row-is (w .0)) h l)
 
     pub step-more : {said : Verdict} {made : ℕ} → heard ≡ Said said made → said ≡ GoesOn → 1 < left → Kept s to → length (log' .places) ≡ length (log .places) → Going par shape c a b words ns behind given from places (k + 1) (q + made) (left - 1) to log'
@@ -154,7 +154,7 @@ iterate-outcomes-coincide o q = (o .answered ∙ sym (q .answered), o .left ∙ 
 
 -- what a caller learns whose problem fits: where no cone failed, what is left is the state after the last step
 pub record RanBy (e : Piece) (record-is : Log) (answer : Iterated) (s' : State) (log' : List Float) : Type 0 where
-  pub answer-is : answer ≡ Made (e .said) (e .steps) (e .rotations) (rowsOf record-is)
+  pub answer-is : answer ≡ Made (e .said) (e .steps) (e .rotations) (countsOf record-is)
   pub state-is : isConeFailure (endingOf (e .said)) ≡ false → s' ≡ e .state
   pub log-is : log' ≡ record-is .places
 

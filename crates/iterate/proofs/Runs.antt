@@ -18,7 +18,7 @@ use Rattle.rules.proofs.Run.{goes-on-exactly, piece-more, piece-none, no-steps,
 use Rattle.project.specs.Project.{ConesReady}
 use Rattle.whole_step.specs.WholeStep.{leftByStep}
 use Rattle.iterate.specs.declared.Iterated.the-variants.{Made}
-use Rattle.iterate.specs.Iterate.{pieceOf, rowsOf, IterateOutcome}
+use Rattle.iterate.specs.Iterate.{pieceOf, countsOf, IterateOutcome}
 use Rattle.iterate.proofs.Steps.{SteppedBy, perStep, step-within}
 
 -- With k steps behind, q rotations made, a record so far and so many steps left to take: what is left equals the whole piece.
@@ -93,15 +93,15 @@ module _ {p : Problem} {ns : Norms} {behind given : ℕ} {from : State} {places 
         same = rw (state-left h, ← one-less) (piece-is h);
       }
 
-  last : {v : Verdict} → said ≡ v → record { said = v; steps = k + 1; rotations = q + made; state = wholeStep p ns s .state } ≡ pieceOf p ns behind given from → IterateOutcome true p ns behind given from places (Made v (k + 1) (q + made) (rowsOf log')) to (log' .places)
+  last : {v : Verdict} → said ≡ v → record { said = v; steps = k + 1; rotations = q + made; state = wholeStep p ns s .state } ≡ pieceOf p ns behind given from → IterateOutcome true p ns behind given from places (Made v (k + 1) (q + made) (countsOf log')) to (log' .places)
   last h e =
       let before : k + 1 - behind - 1 ≡ k - behind = omega (arith, g .least) in
       record { answered = rw (← e, ← logged-is); left = rw (← e, before, ← g .there) (t .left); log-left = rw (← e, ← logged-is) }
 
-  pub running-end : (e : Ending) → said ≡ Ends e → IterateOutcome true p ns behind given from places (Made (Ends e) (k + 1) (q + made) (rowsOf log')) to (log' .places)
+  pub running-end : (e : Ending) → said ≡ Ends e → IterateOutcome true p ns behind given from places (Made (Ends e) (k + 1) (q + made) (countsOf log')) to (log' .places)
   running-end e h = last h (piece-is h)
 
-  pub running-halts : said ≡ GoesOn → left ≤ 1 → IterateOutcome true p ns behind given from places (Made GoesOn (k + 1) (q + made) (rowsOf log')) to (log' .places)
+  pub running-halts : said ≡ GoesOn → left ≤ 1 → IterateOutcome true p ns behind given from places (Made GoesOn (k + 1) (q + made) (countsOf log')) to (log' .places)
   running-halts h l =
       let none-left : max left 1 - 1 ≡ 0 = omega arith in
       last h (sym (piece-none p ns (k + 1) (q + made) (wholeStep p ns s .state)) ∙ (rw none-left at (piece-is h)))

@@ -11,7 +11,7 @@ use Rattle.rules.specs.Run.{Piece, pieceFrom, stateFrom}
 use Rattle.rules.specs.Progress.{Log, untouched, logFrom}
 use Rattle.whole_step.specs.WholeStep.{leftByStep}
 use Rattle.iterate.specs.declared.Iterated.{Iterated}
-use Rattle.iterate.specs.declared.Recorded.{Recorded}
+use Rattle.iterate.specs.declared.RowCounts.{RowCounts}
 use Rattle.iterate.specs.declared.Iterated.the-variants.{Made, No}
 
 -- so many steps from s, one at least, when others are behind
@@ -26,14 +26,14 @@ beforeLast p ns behind given s = stateFrom p ns s (pieceOf p ns behind given s .
 abbrev pub recordOf : Problem → Norms → ℕ → ℕ → State → List Float → Log
 recordOf p ns behind given s log = logFrom p ns behind s (untouched log) (pieceOf p ns behind given s .steps - behind)
 
-abbrev pub rowsOf : Log → Recorded
-rowsOf log = record { written = log .written; dropped = log .dropped }
+abbrev pub countsOf : Log → RowCounts
+countsOf log = record { written = log .written; dropped = log .dropped }
 
 -- It answers what the last step said, the steps by then, the rotations made and the rows of the record, where all fits, and no where it doesn't. The vectors, cone
 -- work and the record hold what that step left, place by place, or what they held before.
 pub record IterateOutcome (fits : Bool) (p : Problem) (ns : Norms) (behind given : ℕ) (s : State) (log : List Float) (answer : Iterated) (s' : State) (log' : List Float) : Type 0 where
   pub answered :
       answer
-      ≡ cond fits (Made (pieceOf p ns behind given s .said) (pieceOf p ns behind given s .steps) (pieceOf p ns behind given s .rotations) (rowsOf (recordOf p ns behind given s log))) No
+      ≡ cond fits (Made (pieceOf p ns behind given s .said) (pieceOf p ns behind given s .steps) (pieceOf p ns behind given s .rotations) (countsOf (recordOf p ns behind given s log))) No
   pub left : s' ≡ cond fits (leftByStep p ns (beforeLast p ns behind given s)) s
   pub log-left : log' ≡ cond fits (recordOf p ns behind given s log .places) log

@@ -10,11 +10,11 @@ use Rattle.rules.specs.Progress.{Log, isDue, rowOf, logRow}
 use Rattle.shape.specs.Fitting.{LikeX}
 use Rattle.whole_step.specs.declared.StepAnswer.{StepAnswer}
 use Rattle.whole_step.specs.declared.StepAnswer.the-variants.{Judged, Failed, No}
-use Rattle.iterate.specs.declared.Recorded.{Recorded}
+use Rattle.iterate.specs.declared.RowCounts.{RowCounts}
 
 -- a record of these places, with its rows so far
-abbrev pub logWith : Recorded → List Float → Log
-logWith rows places = record { places = places; written = rows .written; dropped = rows .dropped }
+abbrev pub logWith : RowCounts → List Float → Log
+logWith counts places = record { places = places; written = counts .written; dropped = counts .dropped }
 
 -- step k, which answered so and left this tau
 abbrev pub logAnswered : ℕ → ℕ → Float → StepAnswer → Log → Log

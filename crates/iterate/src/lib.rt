@@ -7,21 +7,21 @@ use rules::SolverParam;
 use rules::Verdict;
 use whole_step::StepAnswer;
 use whole_step::whole_step;
-ghost use Prim.Native.Nat.{_+_, _<_};
+ghost use Prim.Native.Nat.{_+_, _-_, _<_};
 ghost use mathlib.Core.Path.{_≡_};
+ghost use lib.ListN.{length};
 ghost use Rattle.rules.specs.Problem.{slices, problemIn};
 ghost use Rattle.rules.specs.Product.{none};
 ghost use Rattle.rules.specs.Run as rules;
 ghost use Rattle.rules.specs.Arithmetic.{at};
 ghost use Rattle.rules.specs.Progress.{rowOf, logRow};
-ghost use Rattle.shape.specs.Fitting.{LikeX};
 ghost use Rattle.step.specs.Update.{stateOf, stepFits};
 ghost use Rattle.iterate.specs.Said.{saidBy};
 ghost use Rattle.iterate.specs.Record.{logWith, logAnswered, HasTau};
 ghost use Rattle.iterate.specs.Iterate.{IterateOutcome};
 
 // The rows of a progress record that were written, and those that were dropped.
-pub struct Recorded {
+pub struct RowCounts {
     pub written: u64,
     pub dropped: u64,
 }
@@ -29,7 +29,7 @@ pub struct Recorded {
 // What a piece answers: what its last step said, the steps by then, the rotations made and its rows of the progress record, or a plain
 // no.
 pub enum Iterated {
-    Made(Verdict, u64, u64, Recorded),
+    Made(Verdict, u64, u64, RowCounts),
     No,
 }
 
@@ -78,7 +78,7 @@ pub fn iterate(
     let mut left = given;
     let mut k = behind as u64;
     let mut q: u64 = 0;
-    let mut rows = Recorded {
+    let mut counts = RowCounts {
         written: 0,
         dropped: 0,
     };
@@ -101,16 +101,16 @@ pub fn iterate(
             tx,
             cone_work,
         );
-        rows = log_step(par, shape, k, t, rows, x, log);
+        counts = log_step(par, shape, k, t, counts, x, log);
         let s = said(par, k, t);
         match s {
             StepSaid::Said(v, made) => {
                 q = q + made;
                 match v {
-                    Verdict::Ends(e) => return Iterated::Made(Verdict::Ends(e), k, q, rows),
+                    Verdict::Ends(e) => return Iterated::Made(Verdict::Ends(e), k, q, counts),
                     Verdict::GoesOn => {
                         if left <= 1 {
-                            return Iterated::Made(Verdict::GoesOn, k, q, rows);
+                            return Iterated::Made(Verdict::GoesOn, k, q, counts);
                         }
                         left = left - 1;
                     }
@@ -128,57 +128,57 @@ fn log_step(
     shape: Shape,
     k: u64,
     t: StepAnswer,
-    rows: Recorded,
+    counts: RowCounts,
     x: &[f64],
     log: &mut [f64],
-) -> Recorded
+) -> RowCounts
     requires { ⌜ HasTau shape t (now x) ⌝ }
-    requires { ⌜ rows .written + rows .dropped < k ⌝ }
+    requires { ⌜ counts .written + counts .dropped < k ⌝ }
     ensures { λ r. ⌜
         logWith r (now (log .exit))
         ≡ logAnswered (par .«log_period») k (at (now (x .entry)) (shape .cols .0 + shape .rows .0 + shape .rows .0))
-        t (logWith rows (now (log .entry)))
+        t (logWith counts (now (log .entry)))
         ⌝ }
 {
     match t {
         StepAnswer::Judged(found, _) => {
             if progress::is_due(par.log_period, k) {
-                return log_row(tau_of(shape, x), found, rows, k, log);
+                return log_row(tau_of(x), found, counts, log);
             }
-            rows
+            counts
         }
-        StepAnswer::Failed(_, _) => rows,
-        StepAnswer::No => rows,
+        StepAnswer::Failed(_, _) => counts,
+        StepAnswer::No => counts,
     }
 }
 
 // One more row: it is put after those written, or dropped where it doesn't fit whole.
-fn log_row(tau: f64, found: Criteria, rows: Recorded, k: u64, log: &mut [f64]) -> Recorded
-    requires { ⌜ rows .written + rows .dropped < k ⌝ }
+fn log_row(tau: f64, found: Criteria, counts: RowCounts, log: &mut [f64]) -> RowCounts
+    requires { ⌜ counts .written + counts .dropped < 18446744073709551615 ⌝ }
     ensures { λ r. ⌜
-        logWith r (now (log .exit)) ≡ logRow (rowOf tau found) (logWith rows (now (log .entry)))
+        logWith r (now (log .exit)) ≡ logRow (rowOf tau found) (logWith counts (now (log .entry)))
         ⌝ }
 {
-    let written = rows.written;
-    let dropped = rows.dropped;
+    let written = counts.written;
+    let dropped = counts.dropped;
     let one_more_written = written + 1;
     let one_more_dropped = dropped + 1;
     if progress::put_row(written, tau, found, log) {
-        return Recorded {
+        return RowCounts {
             written: one_more_written,
             dropped,
         };
     }
-    Recorded {
+    RowCounts {
         written,
         dropped: one_more_dropped,
     }
 }
 
 // tau, the last place of x.
-fn tau_of(shape: Shape, x: &[f64]) -> f64
-    requires { ⌜ LikeX shape (now x) ⌝ }
-    ensures { λ r. ⌜ r ≡ at (now (x .entry)) (shape .cols .0 + shape .rows .0 + shape .rows .0) ⌝ }
+fn tau_of(x: &[f64]) -> f64
+    requires { ⌜ 0 < length (now x) ⌝ }
+    ensures { λ r. ⌜ r ≡ at (now (x .entry)) (length (now (x .entry)) - 1) ⌝ }
 {
     x[x.len() - 1]
 }

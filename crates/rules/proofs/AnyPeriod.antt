@@ -23,7 +23,7 @@ use Rattle.rules.specs.Prepare.{prepared, preparedNorms}
 use Rattle.rules.specs.Run.{WholeStep, wholeStep, verdict, allowance, Piece, goingOn, pieceFrom, Ended, Left, run, leftBy}
 use Rattle.rules.specs.Refusals.{badParam, tooLarge, invalidOp, badCone, notFinite, workShortage, facts, readProblem, solved}
 use Rattle.rules.specs.Split.{SplitProblem, joinedProblem, invalidSplit, splitFacts, splitSolved}
-use Rattle.rules.specs.Progress.{Log, withLog, loggedSolved, splitLogged}
+use Rattle.rules.specs.Progress.{Log, withLog, loggedSolved, splitLoggedSolved}
 use Rattle.rules.specs.Demands.{withPeriod, withSplitPeriod, SameButForTheLog}
 use Rattle.rules.proofs.Run.{piece-more, piece-none, run-is}
 use Rattle.rules.proofs.Refusals.{solved-is}
@@ -169,7 +169,7 @@ neither-period-nor-log-alters p period period' work cone log log' =
     let same = any-period p period work cone ∙ sym (any-period p period' work cone) in
     rw (logged-is (withPeriod period p) work cone log, logged-is (withPeriod period' p) work cone log') (same-but-for _ _ _ _ same)
 
-pub split-neither-period-nor-log-alters : (p : SplitProblem) (period period' : ℕ) (work cone log log' : List Float) → SameButForTheLog (splitLogged (withSplitPeriod period p) work cone log) (splitLogged (withSplitPeriod period' p) work cone log')
+pub split-neither-period-nor-log-alters : (p : SplitProblem) (period period' : ℕ) (work cone log log' : List Float) → SameButForTheLog (splitLoggedSolved (withSplitPeriod period p) work cone log) (splitLoggedSolved (withSplitPeriod period' p) work cone log')
 split-neither-period-nor-log-alters p period period' work cone log log' =
     let same = any-split-period p period work cone ∙ sym (any-split-period p period' work cone) in
     rw (split-logged-is (withSplitPeriod period p) work cone log, split-logged-is (withSplitPeriod period' p) work cone log') (same-but-for _ _ _ _ same)

@@ -19,13 +19,13 @@ use Rattle.rules.specs.Problem.{Problem, withWords, workLength}
 use Rattle.rules.specs.Step.{State}
 use Rattle.rules.specs.declared.Norms.{Norms}
 use Rattle.rules.specs.declared.Criteria.{Criteria}
-use Rattle.rules.specs.Run.{pieceFrom, takenUp, Ended, run, leftBy}
+use Rattle.rules.specs.Run.{stateFrom, pieceFrom, takenUp, Ended, run, leftBy}
 use Rattle.rules.specs.declared.Refusal.the-variants.{Accepted, Refused}
 use Rattle.rules.specs.declared.Word.the-variants.{Bad}
 use Rattle.rules.specs.Refusals.{Fact, facts, tooLarge, badCone, refusal, readProblem, plainProblem, numberOf, turnedAway, solved, SolveOutcome}
 use Rattle.rules.specs.Split.{SplitProblem, slicesFit, joinedProblem, plainSplit, splitFacts, splitRefusal, splitSolved, SplitOutcome}
-use Rattle.rules.specs.Progress.{isDue, untouched, withLog, LoggedLeft, loggedSolved, splitLogged, LoggedAs, LoggedOutcome, SplitLoggedOutcome}
-use Rattle.rules.specs.Demands.{NoneHolds, NumberedFrom, GivenExactly, TurnedAwayExactly, SplitTurnedAwayExactly, AsJoinedOrInvalid, GoesByTheRules, EndsFirst, GoesOnExactly, ConvergedExactly, RotationsBounded, AnsweredByTheRules, OldContentsChangeNothing, SplitOldContentsChangeNothing, PlacesBeyondKept, SplitPlacesBeyondKept, withPeriod, withSplitPeriod, SameButForTheLog, AtRow, dueUpTo, RecordedByTheRules, OldContentsOfThree, SplitOldContentsOfThree}
+use Rattle.rules.specs.Progress.{isDue, untouched, withLog, LoggedLeft, loggedSolved, splitLoggedSolved, LoggedAs, LoggedOutcome, SplitLoggedOutcome, Log, logFrom}
+use Rattle.rules.specs.Demands.{NoneHolds, NumberedFrom, GivenExactly, TurnedAwayExactly, SplitTurnedAwayExactly, AsJoinedOrInvalid, GoesByTheRules, EndsFirst, GoesOnExactly, ConvergedExactly, RotationsBounded, AnsweredByTheRules, OldContentsChangeNothing, SplitOldContentsChangeNothing, PlacesBeyondKept, SplitPlacesBeyondKept, withPeriod, withSplitPeriod, SameButForTheLog, DueStep, dueUpTo, RecordedByTheRules, OldContentsOfThree, SplitOldContentsOfThree}
 use Rattle.rules.proofs.Refusals as Refusals
 use Rattle.rules.proofs.Run as Run
 use Rattle.rules.proofs.Converged as Converged
@@ -40,6 +40,8 @@ use Rattle.rules.proofs.Unreadable as Unreadable
 use Rattle.rules.proofs.GroupedRuns as GroupedRuns
 use Rattle.rules.proofs.Due as Due
 use Rattle.rules.proofs.LoggedRuns as LoggedRuns
+use Rattle.rules.proofs.RecordedOnce as RecordedOnce
+use Rattle.rules.proofs.Progress as Progress
 use Rattle.rules.proofs.AnyPeriod as AnyPeriod
 
 -- ---- demand 1
@@ -206,7 +208,7 @@ group-is-bad-cone = Groups.group-is-bad-cone
 -- ---- request (x): a progress record
 
 -- "At steps 1, 1 + period, 1 + 2·period and so on", and "0 means none"
-pub due-exactly : (period k : ℕ) → (isDue period k ≡ true) ↔ AtRow period k
+pub due-exactly : (period k : ℕ) → (isDue period k ≡ true) ↔ DueStep period k
 due-exactly = Due.due-exactly
 
 -- how many of the first k steps these are: k over the period, rounded up, and none without a period
@@ -228,11 +230,11 @@ split-logged-outcome-is-the-plain = LoggedRuns.split-logged-outcome-is-the-plain
 pub refused-records-nothing : (p : Problem) (work cone log : List Float) (e : Ending) → refusal p (length work) (length cone) ≡ Refused e → loggedSolved p work cone log ≡ withLog (turnedAway e work cone) (untouched log)
 refused-records-nothing = LoggedRuns.refused-records-nothing
 
-pub split-refused-records-nothing : (p : SplitProblem) (work cone log : List Float) (e : Ending) → splitRefusal p (length work) (length cone) ≡ Refused e → splitLogged p work cone log ≡ withLog (turnedAway e work cone) (untouched log)
+pub split-refused-records-nothing : (p : SplitProblem) (work cone log : List Float) (e : Ending) → splitRefusal p (length work) (length cone) ≡ Refused e → splitLoggedSolved p work cone log ≡ withLog (turnedAway e work cone) (untouched log)
 split-refused-records-nothing = LoggedRuns.split-refused-records-nothing
 
 -- where the slices have their lengths, all of it is that of the joined matrix, the record too
-pub split-logged-as-joined : (p : SplitProblem) (work cone log : List Float) → slicesFit p ≡ true → splitLogged p work cone log ≡ loggedSolved (joinedProblem p) work cone log
+pub split-logged-as-joined : (p : SplitProblem) (work cone log : List Float) → slicesFit p ≡ true → splitLoggedSolved p work cone log ≡ loggedSolved (joinedProblem p) work cone log
 split-logged-as-joined = LoggedRuns.split-logged-as-joined
 
 -- "At steps 1, 1 + period, 1 + 2·period and so on up to k, a row is written: tau, then the three convergence criteria, or the two others and +0. A step with
@@ -244,18 +246,30 @@ recorded-by-the-rules = LoggedRuns.recorded-by-the-rules
 pub split-recorded-by-the-rules : (p : SplitProblem) (work cone log : List Float) (answer : Logged) (work' cone' log' : List Float) → SplitLoggedOutcome p work cone log answer work' cone' log' → NoneHolds (splitFacts p (length work) (length cone)) → RecordedByTheRules (readProblem (joinedProblem p)) log answer log'
 split-recorded-by-the-rules = LoggedRuns.split-recorded-by-the-rules
 
+-- the problem as it is read has the period that was handed over
+pub period-as-handed : (p : Problem) → readProblem p .par .«log_period» ≡ p .par .«log_period»
+period-as-handed = LoggedRuns.period-as-handed
+
+-- no other record is allowed by that
+pub recorded-once : {p : Problem} {log : List Float} {a b : Logged} {l m : List Float} → RecordedByTheRules p log a l → RecordedByTheRules p log b m → a .answer ≡ b .answer → (a .written ≡ b .written) × (a .dropped ≡ b .dropped) × (l ≡ m)
+recorded-once r t same = RecordedOnce.recorded-once r t same
+
+-- from any state, and however steps are cut: their rows come to the whole's
+pub logs-join : (p : Problem) (ns : Norms) (s : State) (k : ℕ) (log : Log) (a b : ℕ) → logFrom p ns k s log (a + b) ≡ logFrom p ns (k + a) (stateFrom p ns s a) (logFrom p ns k s log a) b
+logs-join = Progress.logs-join
+
 -- refused or not, no place comes or goes
 pub log-as-long : (p : Problem) (work cone log : List Float) → length (loggedSolved p work cone log .log) ≡ length log
 log-as-long = LoggedRuns.log-as-long
 
-pub split-log-as-long : (p : SplitProblem) (work cone log : List Float) → length (splitLogged p work cone log .log) ≡ length log
+pub split-log-as-long : (p : SplitProblem) (work cone log : List Float) → length (splitLoggedSolved p work cone log .log) ≡ length log
 split-log-as-long = LoggedRuns.split-log-as-long
 
 -- "Neither the period nor this buffer's contents or length may alter verdict, k, q, work or cone work"
 pub neither-period-nor-log-alters : (p : Problem) (period period' : ℕ) (work cone log log' : List Float) → SameButForTheLog (loggedSolved (withPeriod period p) work cone log) (loggedSolved (withPeriod period' p) work cone log')
 neither-period-nor-log-alters = AnyPeriod.neither-period-nor-log-alters
 
-pub split-neither-period-nor-log-alters : (p : SplitProblem) (period period' : ℕ) (work cone log log' : List Float) → SameButForTheLog (splitLogged (withSplitPeriod period p) work cone log) (splitLogged (withSplitPeriod period' p) work cone log')
+pub split-neither-period-nor-log-alters : (p : SplitProblem) (period period' : ℕ) (work cone log log' : List Float) → SameButForTheLog (splitLoggedSolved (withSplitPeriod period p) work cone log) (splitLoggedSolved (withSplitPeriod period' p) work cone log')
 split-neither-period-nor-log-alters = AnyPeriod.split-neither-period-nor-log-alters
 
 -- the same of the run without a record

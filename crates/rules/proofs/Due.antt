@@ -8,7 +8,7 @@ use mathlib.Core.Bool.{Bool, true, false, _&&_, true≢false}
 use borrow.Author.Tests.{ltb-true, eqb-true, lt-ltb}
 use lib.Dec.{ltb, eqb}
 use Rattle.rules.specs.Progress.{isDue}
-use Rattle.rules.specs.Demands.{AtRow, dueUpTo}
+use Rattle.rules.specs.Demands.{DueStep, dueUpTo}
 use Rattle.rules.proofs.Columns.{by-less}
 use Rattle.rules.proofs.Matrices.{both-true}
 
@@ -18,7 +18,7 @@ use Rattle.rules.proofs.Matrices.{both-true}
 whole : (period k : ℕ) → k % period ≡ 0 → k ≡ k / period * period
 whole period k e = omega (arith, div-add-mod' k period)
 
-due-at-row : (period k : ℕ) → isDue period k ≡ true → AtRow period k
+due-at-row : (period k : ℕ) → isDue period k ≡ true → DueStep period k
 unfolding isDue
 due-at-row period k due =
     let t = both-true (ltb 0 period && ltb 0 k) (eqb ((k - 1) % period) 0) due in
@@ -28,7 +28,7 @@ due-at-row period k due =
     let periods = whole period (k - 1) (eqb-true _ _ (t .1)) in
     record { some = omega arith; before = (k - 1) / period; is = omega arith }
 
-row-is-due : (period k : ℕ) → AtRow period k → isDue period k ≡ true
+row-is-due : (period k : ℕ) → DueStep period k → isDue period k ≡ true
 unfolding isDue
 row-is-due period k r =
     let earlier : k - 1 ≡ r .before * period = omega (arith, r .is) in
@@ -37,7 +37,7 @@ row-is-due period k r =
     rw (lt-ltb 0 period some, lt-ltb 0 k first, earlier, mul-mod-left (r .before) period)
 
 -- A row is due at steps 1, 1 + period, 1 + 2·period and so on, and at no other.
-pub due-exactly : (period k : ℕ) → (isDue period k ≡ true) ↔ AtRow period k
+pub due-exactly : (period k : ℕ) → (isDue period k ≡ true) ↔ DueStep period k
 due-exactly period k = (due-at-row period k, row-is-due period k)
 
 -- ---- how many
@@ -92,7 +92,7 @@ rounded-as-before {period} {k} {count} some r not-due =
     record {
       enough = by-less k (count * period) (λ l. omega arith)
           (λ l.
-          let row : AtRow period (suc k) = record { some = some; before = count; is = omega (arith, r .enough) } in
+          let row : DueStep period (suc k) = record { some = some; before = count; is = omega (arith, r .enough) } in
           absurd (true≢false (sym (row-is-due period (suc k) row) ∙ not-due)));
       not-more = omega (arith, r .not-more);
     }

@@ -22,6 +22,7 @@ pub mod Answered
 pub mod SplitRuns
 pub mod Recorded
 pub mod LoggedRuns
+pub mod RecordedOnce
 pub mod AnyPeriod
 pub mod Groups
 pub mod Unreadable

@@ -14,13 +14,18 @@ use Rattle.rules.specs.Problem.{Problem}
 use Rattle.rules.specs.Run.{run, leftBy}
 use Rattle.rules.specs.Refusals.{facts, refusal, readProblem, turnedAway, solved, SolveOutcome}
 use Rattle.rules.specs.Split.{SplitProblem, slicesFit, joinedProblem, splitFacts, splitRefusal, splitSolved, SplitOutcome}
-use Rattle.rules.specs.Progress.{untouched, logAfter, LoggedLeft, logOf, withLog, loggedSolved, splitLogged, LoggedAs, LoggedOutcome, SplitLoggedOutcome}
+use Rattle.rules.specs.Progress.{untouched, logAfter, LoggedLeft, logOf, withLog, loggedSolved, splitLoggedSolved, LoggedAs, LoggedOutcome, SplitLoggedOutcome}
 use Rattle.rules.specs.Demands.{NoneHolds, RecordedByTheRules, SameOverThree, OldContentsOfThree, SplitOldContentsOfThree}
 use Rattle.rules.proofs.OldContents.{solved-accepted, solved-refused, old-contents-change-nothing}
 use Rattle.rules.proofs.Refusals.{accepted-if-none-holds}
 use Rattle.rules.proofs.Answered.{left-answer-is}
 use Rattle.rules.proofs.Recorded.{recorded}
 use Rattle.rules.proofs.SplitRuns.{same-facts, same-refusal, split-runs-as-joined, slices-fit-if-none-holds, slices-fit-if-accepted}
+
+-- The record's period is the one that was handed over.
+pub period-as-handed : (p : Problem) → readProblem p .par .«log_period» ≡ p .par .«log_period»
+unfolding readProblem
+period-as-handed p = refl
 
 module _ (p : Problem) (work cone log : List Float) where
   pub logged-is : loggedSolved p work cone log ≡ withLog (solved p work cone) (logOf (refusal p (length work) (length cone)) (readProblem p) log)
@@ -75,7 +80,7 @@ module _ {q : Problem} {log log' : List Float} {one other : LoggedLeft} (r : Rec
         cone-required = cone;
         rows-due = due;
         rows-of-both = λ j l l'. r .rows j l ∙ sym (r' .rows j l');
-        counts = λ long. same-logged (one .answer) (other .answer) answer (fitting long) (omega (arith, due, fitting long));
+        as-long-as-many = λ long. same-logged (one .answer) (other .answer) answer (fitting long) (omega (arith, due, fitting long));
       }
     where
       due : one .answer .written + one .answer .dropped ≡ other .answer .written + other .answer .dropped
@@ -95,12 +100,12 @@ old-contents-of-three p work cone log work' cone' log' e e' =
 -- ---- a problem whose A stands in two slices
 
 module _ (p : SplitProblem) (work cone log : List Float) where
-  pub split-logged-is : splitLogged p work cone log ≡ withLog (splitSolved p work cone) (logOf (splitRefusal p (length work) (length cone)) (readProblem (joinedProblem p)) log)
-  unfolding splitLogged
+  pub split-logged-is : splitLoggedSolved p work cone log ≡ withLog (splitSolved p work cone) (logOf (splitRefusal p (length work) (length cone)) (readProblem (joinedProblem p)) log)
+  unfolding splitLoggedSolved
   split-logged-is = refl
 
   -- the record too is that of the run over the joined matrix
-  pub split-logged-as-joined : slicesFit p ≡ true → splitLogged p work cone log ≡ loggedSolved (joinedProblem p) work cone log
+  pub split-logged-as-joined : slicesFit p ≡ true → splitLoggedSolved p work cone log ≡ loggedSolved (joinedProblem p) work cone log
   split-logged-as-joined h =
       split-logged-is
       ∙ rw (split-runs-as-joined p work cone h, same-refusal p (length work) (length cone) h) (sym (logged-is (joinedProblem p) work cone log))
@@ -109,7 +114,7 @@ module _ (p : SplitProblem) (work cone log : List Float) where
   unfolding splitSolved
   split-solved-refused e is = rw is
 
-  pub split-refused-records-nothing : (e : Ending) → splitRefusal p (length work) (length cone) ≡ Refused e → splitLogged p work cone log ≡ withLog (turnedAway e work cone) (untouched log)
+  pub split-refused-records-nothing : (e : Ending) → splitRefusal p (length work) (length cone) ≡ Refused e → splitLoggedSolved p work cone log ≡ withLog (turnedAway e work cone) (untouched log)
   split-refused-records-nothing e is = split-logged-is ∙ rw (split-solved-refused e is, is)
 
   pub split-logged-outcome-is-the-plain : (answer : Logged) (work' cone' log' : List Float) → SplitLoggedOutcome p work cone log answer work' cone' log' → SplitOutcome p work cone (answer .answer) work' cone'
@@ -129,10 +134,10 @@ module _ (p : SplitProblem) (work cone log : List Float) where
       let h = slices-fit-if-none-holds p (length work) (length cone) none in
       recorded-by-the-rules (joinedProblem p) work cone log answer work' cone' log' (logged-over-joined answer work' cone' log' o h) (rw (same-facts p (length work) (length cone) h) at none)
 
-  pub split-log-as-long : length (splitLogged p work cone log .log) ≡ length log
+  pub split-log-as-long : length (splitLoggedSolved p work cone log .log) ≡ length log
   split-log-as-long = go (splitRefusal p (length work) (length cone)) refl
     where
-      go : (r : Refusal) → splitRefusal p (length work) (length cone) ≡ r → length (splitLogged p work cone log .log) ≡ length log
+      go : (r : Refusal) → splitRefusal p (length work) (length cone) ≡ r → length (splitLoggedSolved p work cone log .log) ≡ length log
       go Accepted e = rw (split-logged-as-joined (slices-fit-if-accepted p work cone e)) (log-as-long (joinedProblem p) work cone log)
       go (Refused x) e = rw (split-refused-records-nothing x e)
 

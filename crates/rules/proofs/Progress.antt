@@ -1,7 +1,7 @@
 -- Laws of a progress record, step by step.
 use Prim.Native.Nat.{ℕ, zero, suc, _+_, _*_, _≤_}
 use native.Mathlib.Omega.{arith}
-use mathlib.Core.Path.{_≡_, refl, sym, _∙_}
+use mathlib.Core.Path.{_≡_, refl, sym, _∙_, ap}
 use mathlib.Core.Bool.{Bool, true, false, cond, _&&_}
 use mathlib.Core.List.{List}
 use borrow.Author.Tests.{leb-true}
@@ -14,6 +14,7 @@ use Rattle.rules.specs.Step.{State}
 use Rattle.rules.specs.Criteria.{tauOf}
 use Rattle.rules.specs.Run.{WholeStep, wholeStep, stateFrom}
 use Rattle.rules.specs.Progress.{isDue, rowOf, Log, untouched, rowFits, rowPut, logRow, logStep, logFrom}
+use Rattle.rules.proofs.Run.{step-from, state-from, no-steps}
 
 -- ---- one step
 
@@ -66,3 +67,28 @@ module _ (p : Problem) (ns : Norms) (k : ℕ) (s : State) (log : Log) where
   pub few-rows : (i : ℕ) → logFrom p ns k s log i .written + logFrom p ns k s log i .dropped ≤ log .written + log .dropped + i
   few-rows zero = rw log-none (omega arith)
   few-rows (suc i) = rw (log-more i) (omega (arith, step-counted p (k + suc i) (wholeStep p ns (stateFrom p ns s i)) (logFrom p ns k s log i), few-rows i))
+
+-- ---- however steps are cut
+
+module _ (p : Problem) (ns : Norms) (s : State) where
+  one-more : (i : ℕ) → stateFrom p ns s (suc i) ≡ wholeStep p ns (stateFrom p ns s i) .state
+  one-more i = state-from p ns s i ∙ ap (λ t. t .state) (step-from p ns s i)
+
+module _ (p : Problem) (ns : Norms) (s : State) where
+  states-join : (a b : ℕ) → stateFrom p ns s (a + b) ≡ stateFrom p ns (stateFrom p ns s a) b
+  states-join a zero =
+      let e : a + 0 ≡ a = omega arith in
+      rw (e, no-steps p ns (stateFrom p ns s a))
+  states-join a (suc b) =
+      let e : a + suc b ≡ suc (a + b) = omega arith in
+      rw (e, one-more p ns s (a + b), one-more p ns (stateFrom p ns s a) b, states-join a b)
+
+  -- The record of a steps and then of b more is that of them all.
+  pub logs-join : (k : ℕ) (log : Log) (a b : ℕ) → logFrom p ns k s log (a + b) ≡ logFrom p ns (k + a) (stateFrom p ns s a) (logFrom p ns k s log a) b
+  logs-join k log a zero =
+      let e : a + 0 ≡ a = omega arith in
+      rw (e, log-none p ns (k + a) (stateFrom p ns s a) (logFrom p ns k s log a))
+  logs-join k log a (suc b) =
+      let e : a + suc b ≡ suc (a + b) = omega arith in
+      let i : k + suc (a + b) ≡ k + a + suc b = omega arith in
+      rw (e, log-more p ns k s log (a + b), log-more p ns (k + a) (stateFrom p ns s a) (logFrom p ns k s log a) b, i, states-join a b, logs-join k log a b)

@@ -29,7 +29,7 @@ use Rattle.rules.specs.Helpers.{reciprocal}
 use Rattle.rules.specs.Vectors.{scaled}
 use Rattle.rules.specs.Refusals.{Fact, _when_, First, none-applies, applies, firstOf, facts, numberOf, readProblem, solved, turnedAway}
 use Rattle.rules.specs.Split.{SplitProblem, splitOf, slicesFit, joinedProblem, splitFacts, splitSolved}
-use Rattle.rules.specs.Progress.{isDue, rowOf, LoggedLeft, loggedSolved, splitLogged}
+use Rattle.rules.specs.Progress.{isDue, rowOf, LoggedLeft, loggedSolved, splitLoggedSolved}
 
 -- ---- demand 1
 
@@ -280,7 +280,7 @@ pub record SameButForTheLog (one other : LoggedLeft) : Type 0 where
   pub cone : one .cone ≡ other .cone
 
 -- "At steps 1, 1 + period, 1 + 2·period and so on", and "0 means none": k is one of these
-pub record AtRow (period k : ℕ) : Type 0 where
+pub record DueStep (period k : ℕ) : Type 0 where
   pub some : 1 ≤ period
   pub before : ℕ
   pub is : k ≡ 1 + before * period
@@ -317,7 +317,7 @@ pub record SameOverThree (required needed : ℕ) (log log' : List Float) (one ot
   pub cone-required : take needed (one .cone) ≡ take needed (other .cone)
   pub rows-due : one .answer .written + one .answer .dropped ≡ other .answer .written + other .answer .dropped
   pub rows-of-both : (j : ℕ) → j < one .answer .written → j < other .answer .written → part (4 * j) 4 (one .log) ≡ part (4 * j) 4 (other .log)
-  pub counts : length log ≡ length log' → one .answer ≡ other .answer
+  pub as-long-as-many : length log ≡ length log' → one .answer ≡ other .answer
 
 abbrev pub OldContentsOfThree : Problem → List Float → List Float → List Float → List Float → List Float → List Float → Type 0
 OldContentsOfThree p work cone log work' cone' log' =
@@ -325,4 +325,4 @@ OldContentsOfThree p work cone log work' cone' log' =
 
 abbrev pub SplitOldContentsOfThree : SplitProblem → List Float → List Float → List Float → List Float → List Float → List Float → Type 0
 SplitOldContentsOfThree p work cone log work' cone' log' =
-    SameOverThree (workNeeded (joinedProblem p)) (coneNeeded (joinedProblem p)) log log' (splitLogged p work cone log) (splitLogged p work' cone' log')
+    SameOverThree (workNeeded (joinedProblem p)) (coneNeeded (joinedProblem p)) log log' (splitLoggedSolved p work cone log) (splitLoggedSolved p work' cone' log')

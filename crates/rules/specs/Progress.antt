@@ -102,9 +102,9 @@ loggedSolved p work cone log =
     withLog (solved p work cone) (logOf (refusal p (length work) (length cone)) (readProblem p) log)
 
 -- the same of a problem whose A stands in two slices
-unfoldable pub splitLogged : SplitProblem → List Float → List Float → List Float → LoggedLeft
+unfoldable pub splitLoggedSolved : SplitProblem → List Float → List Float → List Float → LoggedLeft
 unfolding splitSolved logFrom splitRefusal readProblem run
-splitLogged p work cone log =
+splitLoggedSolved p work cone log =
     withLog (splitSolved p work cone) (logOf (splitRefusal p (length work) (length cone)) (readProblem (joinedProblem p)) log)
 
 -- It answers by the rule, and all three buffers hold what the rule says, place by place, on refusal too.
@@ -118,4 +118,4 @@ abbrev pub LoggedOutcome : Problem → List Float → List Float → List Float 
 LoggedOutcome p work cone log = LoggedAs (loggedSolved p work cone log)
 
 abbrev pub SplitLoggedOutcome : SplitProblem → List Float → List Float → List Float → Logged → List Float → List Float → List Float → Type 0
-SplitLoggedOutcome p work cone log = LoggedAs (splitLogged p work cone log)
+SplitLoggedOutcome p work cone log = LoggedAs (splitLoggedSolved p work cone log)

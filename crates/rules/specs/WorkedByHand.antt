@@ -142,12 +142,12 @@ abbrev answered : Ending → ℕ → ℕ → Answer
 answered e k q = record { ending = e; steps = k; rotations = q }
 
 -- the same with the rows of a progress record
-abbrev loggedAs : Answer → ℕ → ℕ → Logged
-loggedAs answer written dropped = record { answer = answer; written = written; dropped = dropped }
+abbrev loggedAnswer : Answer → ℕ → ℕ → Logged
+loggedAnswer answer written dropped = record { answer = answer; written = written; dropped = dropped }
 
 -- 1, 2, 3, 4 as a row of a record, and a step at which a cone failed
-abbrev fourth : List Float
-fourth = rowOf (whole 1) (Conv (whole 2) (whole 3) (whole 4))
+abbrev oneToFour : List Float
+oneToFour = rowOf (whole 1) (Conv (whole 2) (whole 3) (whole 4))
 
 abbrev failing : WholeStep
 failing = record { state = prepared byDefault; rotations = 0; failure = block 0; criteria = Conv +0 +0 +0 }
@@ -210,21 +210,24 @@ table =
     ∷ (frNorm (10^200 ∷ []) comes-to inf false)
     ∷ (solved unmet (held 22) [] .answer comes-to answered (Converged +0 +0 +0) 1 0)
     ∷ (take 1 (solved unmet (held 22) [] .work) comes-to (+0 ∷ []))
-    -- nor these, but request (x): steps 1, 4 and 7 are due with a period of 3, none with 0, and the first with the largest; what a row is; a second one that does not fit whole; a step at
-    -- which a cone fails; and the empty problem's runs: with every step recorded in six places and in three, without one, with tau not above eps_zero, and turned away
+    -- nor these, but request (x): steps 1, 4 and 7 are due with a period of 3, none with 0, and the first with the largest; what a row is; a second one that does not fit whole, and one
+    -- that does; a step at which a cone fails; and the empty problem's runs: with every step recorded in six places and in three, without one, with tau not above eps_zero, turned away, and of seven steps with a period of 3 in nine places
     ∷ (dueUpTo 3 6 comes-to 2)
     ∷ (dueUpTo 3 7 comes-to 3)
     ∷ (isDue 3 3 comes-to false)
     ∷ (dueUpTo 0 9 comes-to 0)
     ∷ (dueUpTo 4_294_967_295 9 comes-to 1)
     ∷ (rowOf (whole 1) (Inf (whole 2) (whole 3)) comes-to (whole 1 ∷ whole 2 ∷ whole 3 ∷ +0 ∷ []))
-    ∷ (logRow (held 4) (logRow fourth (untouched (held 7))) comes-to record { places = whole 1 ∷ whole 2 ∷ whole 3 ∷ whole 4 ∷ held 3; written = 1; dropped = 1 })
+    ∷ (logRow (held 4) (logRow oneToFour (untouched (held 7))) comes-to record { places = whole 1 ∷ whole 2 ∷ whole 3 ∷ whole 4 ∷ held 3; written = 1; dropped = 1 })
+    ∷ (logRow oneToFour (logRow (held 4) (untouched (held 9))) comes-to record { places = whole 5 ∷ whole 5 ∷ whole 5 ∷ whole 5 ∷ whole 1 ∷ whole 2 ∷ whole 3 ∷ whole 4 ∷ held 1; written = 2; dropped = 0 })
     ∷ (logStep (withPeriod 1 byDefault) 1 failing (untouched (held 4)) comes-to untouched (held 4))
-    ∷ (loggedSolved (withPeriod 1 byDefault) (held 6) [] (held 6) .answer comes-to loggedAs (answered (Converged +0 +0 +0) 1 0) 1 0)
+    ∷ (loggedSolved (withPeriod 1 byDefault) (held 6) [] (held 6) .answer comes-to loggedAnswer (answered (Converged +0 +0 +0) 1 0) 1 0)
     ∷ (loggedSolved (withPeriod 1 byDefault) (held 6) [] (held 6) .log comes-to (whole 1 ∷ +0 ∷ +0 ∷ +0 ∷ held 2))
-    ∷ (loggedSolved (withPeriod 1 byDefault) (held 6) [] (held 3) .answer comes-to loggedAs (answered (Converged +0 +0 +0) 1 0) 0 1)
+    ∷ (loggedSolved (withPeriod 1 byDefault) (held 6) [] (held 3) .answer comes-to loggedAnswer (answered (Converged +0 +0 +0) 1 0) 0 1)
     ∷ (loggedSolved (withPeriod 1 byDefault) (held 6) [] (held 3) .log comes-to held 3)
-    ∷ (loggedSolved byDefault (held 6) [] (held 4) .answer comes-to loggedAs (answered (Converged +0 +0 +0) 1 0) 0 0)
+    ∷ (loggedSolved byDefault (held 6) [] (held 4) .answer comes-to loggedAnswer (answered (Converged +0 +0 +0) 1 0) 0 0)
     ∷ (loggedSolved (withPeriod 1 (empty (epsZero0 (defaults 1 64)))) (held 6) [] (held 4) .log comes-to (+0 ∷ inf false ∷ inf false ∷ +0 ∷ []))
     ∷ (loggedSolved (withPeriod 1 byDefault) (held 5) [] (held 4) comes-to withLog (turnedAway WorkShortage (held 5) []) (untouched (held 4)))
+    ∷ (loggedSolved (withPeriod 3 (empty (epsZero0 (defaults 7 64)))) (held 6) [] (held 9) .answer comes-to loggedAnswer (answered (ExcessIterUnscaled (inf false) (inf false)) 7 0) 2 1)
+    ∷ (loggedSolved (withPeriod 3 (empty (epsZero0 (defaults 7 64)))) (held 6) [] (held 9) .log comes-to (+0 ∷ inf false ∷ inf false ∷ +0 ∷ +0 ∷ inf false ∷ inf false ∷ +0 ∷ held 1))
     ∷ []

@@ -124,9 +124,14 @@ impl SolverParam {
     pub fn with_log_period(par: SolverParam, period: u32) -> SolverParam
         ensures { λ r. ⌜ r ≡ withLogPeriod par period ⌝ }
     {
-        let zero = par.eps_zero;
-        let sweeps = par.sweep_limit;
-        SolverParam::made(par.max_iter, par.eps_acc, par.eps_inf, zero, sweeps, period)
+        SolverParam::made(
+            par.max_iter,
+            par.eps_acc,
+            par.eps_inf,
+            par.eps_zero,
+            par.sweep_limit,
+            period,
+        )
     }
 
     // All of them: the one place where parameters are made.

@@ -34,8 +34,8 @@ use Rattle.prepare.proofs.Outcomes.{PreparedBy, prepared-where-fits}
 use Rattle.step.specs.Update.{stateOf, stepFits, StepReady}
 use Rattle.iterate.specs.declared.Iterated.{Iterated}
 use Rattle.iterate.specs.declared.Iterated.the-variants.{Made, No as NoRun}
-use Rattle.iterate.specs.declared.Recorded.{Recorded}
-use Rattle.iterate.specs.Iterate.{pieceOf, recordOf, rowsOf, IterateOutcome}
+use Rattle.iterate.specs.declared.RowCounts.{RowCounts}
+use Rattle.iterate.specs.Iterate.{pieceOf, recordOf, countsOf, IterateOutcome}
 use Rattle.iterate.proofs.Outcomes.{RanBy, ran-where-fits}
 use Rattle.settle.specs.Settle.{Settled, SettleOutcome}
 use Rattle.settle.proofs.Settled.{settled-if-fitting}
@@ -128,7 +128,7 @@ module _ {shape : Shape} {c : List Float} (a : Slices) {b : List Float} {words :
 
 -- ---- after the last step
 
-module _ {p : Problem} {e : Piece} {r : Log} {ran : Iterated} {answer : Logged} {x y dpTau dpSigma rx tx cone work log x' work' cone' log' : List Float} (whole : run p ≡ endedBy e) (logged : r ≡ logAfter p log (run p .steps)) (i : RanBy e r ran (stateOf x y dpTau dpSigma rx tx cone) log') (same : answer ≡ answerBy (e .said) (e .steps) (e .rotations) (rowsOf r)) (n : length cone ≡ coneWork (blocks p)) (b : Settled (p .m) (p .n) x y dpTau dpSigma rx tx work (answer .answer .ending) cone x' work' cone') where
+module _ {p : Problem} {e : Piece} {r : Log} {ran : Iterated} {answer : Logged} {x y dpTau dpSigma rx tx cone work log x' work' cone' log' : List Float} (whole : run p ≡ endedBy e) (logged : r ≡ logAfter p log (run p .steps)) (i : RanBy e r ran (stateOf x y dpTau dpSigma rx tx cone) log') (same : answer ≡ answerBy (e .said) (e .steps) (e .rotations) (countsOf r)) (n : length cone ≡ coneWork (blocks p)) (b : Settled (p .m) (p .n) x y dpTau dpSigma rx tx work (answer .answer .ending) cone x' work' cone') where
   ran-in : RanIn p work log answer work' cone' log'
   ran-in = go (isConeFailure (run p .ending)) refl
     where
@@ -160,7 +160,7 @@ module _ {shape : Shape} {c : List Float} {a : Slices} {b : List Float} {words :
       → cone₁ ≡ zeros (length cone)
       → PreparedOutcome (prepareFits shape c a b words x y tau sigma) (problemIn shape c a b words par) x y tau sigma prepared-as x₁ y₁ tau₁ sigma₁ → ((n : Norms) → prepared-as ≡ Done n → ns ≡ n)
       → IterateOutcome (stepFits par shape c a b words (stateOf x₁ y₁ tau₁ sigma₁ rx tx cone₁)) (problemIn shape c a b words par) ns 0 (par .«max_iter») (stateOf x₁ y₁ tau₁ sigma₁ rx tx cone₁) log ran (stateOf x₂ y₂ tau₁ sigma₁ rx₂ tx₂ cone₂) log'
-      → ((said : Verdict) (k q : ℕ) (rows : Recorded) → ran ≡ Made said k q rows → answer ≡ answerBy said k q rows)
+      → ((said : Verdict) (k q : ℕ) (counts : RowCounts) → ran ≡ Made said k q counts → answer ≡ answerBy said k q counts)
       → SettleOutcome (shape .rows .0) (shape .cols .0) x₂ y₂ tau₁ sigma₁ rx₂ tx₂ work (answer .answer .ending) cone₂ fits x₃ work' cone'
       → length x₂ ≡ length x₁ → length y₂ ≡ length y₁ → length rx₂ ≡ length rx → length tx₂ ≡ length tx → length cone₂ ≡ length cone₁
       → RanIn (problemIn shape c a b words par) work log answer work' cone' log'
@@ -193,21 +193,21 @@ pub none-done : {v : Norms} → No ≡ Done v → ⊥
 none-done e = let z : _≡_ {A = ℕ} 0 1 = cc in omega arith
 
 -- of a piece that ended, of one that halted, and of none
-pub answer-ends : {v w : Verdict} {k q l r : ℕ} {rows rows' : Recorded} {x : Ending} → Made v k q rows ≡ Made w l r rows' → v ≡ Ends x → loggedBy x k q rows ≡ answerBy w l r rows'
-answer-ends {v} {w} {k} {q} {l} {r} {rows} {rows'} {x} h is =
+pub answer-ends : {v w : Verdict} {k q l r : ℕ} {counts counts' : RowCounts} {x : Ending} → Made v k q counts ≡ Made w l r counts' → v ≡ Ends x → loggedBy x k q counts ≡ answerBy w l r counts'
+answer-ends {v} {w} {k} {q} {l} {r} {counts} {counts'} {x} h is =
     let said-is : w ≡ Ends x = cc in
     let steps-are : k ≡ l = cc in
     let rotations-are : q ≡ r = cc in
-    let rows-are : rows ≡ rows' = cc in
-    rw (said-is, steps-are, rotations-are, rows-are)
+    let counts-are : counts ≡ counts' = cc in
+    rw (said-is, steps-are, rotations-are, counts-are)
 
-pub answer-halts : {v w : Verdict} {k q l r : ℕ} {rows rows' : Recorded} → Made v k q rows ≡ Made w l r rows' → v ≡ GoesOn → loggedBy (ConeFailure 0) k q rows ≡ answerBy w l r rows'
-answer-halts {v} {w} {k} {q} {l} {r} {rows} {rows'} h is =
+pub answer-halts : {v w : Verdict} {k q l r : ℕ} {counts counts' : RowCounts} → Made v k q counts ≡ Made w l r counts' → v ≡ GoesOn → loggedBy (ConeFailure 0) k q counts ≡ answerBy w l r counts'
+answer-halts {v} {w} {k} {q} {l} {r} {counts} {counts'} h is =
     let said-is : w ≡ GoesOn = cc in
     let steps-are : k ≡ l = cc in
     let rotations-are : q ≡ r = cc in
-    let rows-are : rows ≡ rows' = cc in
-    rw (said-is, steps-are, rotations-are, rows-are)
+    let counts-are : counts ≡ counts' = cc in
+    rw (said-is, steps-are, rotations-are, counts-are)
 
-pub none-made : {v : Verdict} {k q : ℕ} {rows : Recorded} → NoRun ≡ Made v k q rows → ⊥
+pub none-made : {v : Verdict} {k q : ℕ} {counts : RowCounts} → NoRun ≡ Made v k q counts → ⊥
 none-made e = let z : _≡_ {A = ℕ} 0 1 = cc in omega arith

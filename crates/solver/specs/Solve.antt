@@ -21,7 +21,7 @@ use Rattle.rules.specs.Prepare.{zeros}
 use Rattle.rules.specs.Run.{endingOf, Ended, run, laidOut, isConeFailure, leftBy}
 use Rattle.rules.specs.Progress.{LoggedLeft, withLog, logAfter}
 use Rattle.shape.specs.Fitting.{Fits}
-use Rattle.iterate.specs.declared.Recorded.{Recorded}
+use Rattle.iterate.specs.declared.RowCounts.{RowCounts}
 
 -- a problem that was not turned away, as the run reads it
 pub record Ready (shape : Shape) (c : List Float) (a : Slices) (b : List Float) (words : List ℕ) (par : SolverParam) : Type 0 where
@@ -49,9 +49,9 @@ pub record AtZero (shape : Shape) (x y dpTau dpSigma rx tx : List Float) : Type 
   pub tx-zero : tx ≡ zeros (lengthX (shape .rows .0) (shape .cols .0))
 
 -- what is answered with this ending, steps and rotations, and these rows
-abbrev pub loggedBy : Ending → ℕ → ℕ → Recorded → Logged
-loggedBy e k q rows =
-    record { answer = record { ending = e; steps = k; rotations = q }; written = rows .written; dropped = rows .dropped }
+abbrev pub loggedBy : Ending → ℕ → ℕ → RowCounts → Logged
+loggedBy e k q counts =
+    record { answer = record { ending = e; steps = k; rotations = q }; written = counts .written; dropped = counts .dropped }
 
 -- the answer to a problem that is turned away
 abbrev pub turnedAwayBy : Ending → Logged
@@ -61,8 +61,8 @@ abbrev pub answerOf : Ended → Answer
 answerOf e = record { ending = e .ending; steps = e .steps; rotations = e .rotations }
 
 -- the same of what a piece of a run answers
-abbrev pub answerBy : Verdict → ℕ → ℕ → Recorded → Logged
-answerBy said k q rows = loggedBy (endingOf said) k q rows
+abbrev pub answerBy : Verdict → ℕ → ℕ → RowCounts → Logged
+answerBy said k q counts = loggedBy (endingOf said) k q counts
 
 -- what an accepted run leaves, by the rule, with its record
 abbrev pub leftLogged : Problem → List Float → List Float → List Float → LoggedLeft

@@ -1,6 +1,6 @@
 // An accepted run, in vectors and buffers that were made for it.
 use iterate::Iterated;
-use iterate::Recorded;
+use iterate::RowCounts;
 use prepare::Prepared;
 use rules::Answer;
 use rules::Ending;
@@ -16,7 +16,7 @@ ghost use Rattle.rules.specs.declared.Verdict.{Verdict};
 ghost use Rattle.rules.specs.Problem.{slices, problemIn};
 ghost use Rattle.prepare.specs.declared.Prepared.the-variants.{Done};
 ghost use Rattle.iterate.specs.declared.Iterated.the-variants.{Made};
-ghost use Rattle.iterate.specs.declared.Recorded.{Recorded};
+ghost use Rattle.iterate.specs.declared.RowCounts.{RowCounts};
 ghost use Rattle.solver.specs.Solve.{Lent, AtZero, loggedBy, answerBy, RanIn};
 
 // The whole run, with its six vectors at zero.
@@ -105,28 +105,28 @@ fn norms_of(prepared: Prepared) -> Norms
 // The answer, of steps that were taken: what the last one said, with their number, their rotations and their rows.
 fn answer_of(ran: Iterated) -> Logged
     ensures { λ r. ⌜
-        ((said : Verdict) (k q : ℕ) (rows : Recorded) → ran ≡ Made said k q rows → r ≡ answerBy said k q rows)
+        ((said : Verdict) (k q : ℕ) (counts : RowCounts) → ran ≡ Made said k q counts → r ≡ answerBy said k q counts)
         ⌝ }
 {
     match ran {
-        Iterated::Made(v, k, q, rows) => match v {
-            Verdict::Ends(e) => logged(e, k, q, rows),
+        Iterated::Made(v, k, q, counts) => match v {
+            Verdict::Ends(e) => logged(e, k, q, counts),
             // with all of the allowance a run always ends
-            Verdict::GoesOn => logged(Ending::ConeFailure(0), k, q, rows),
+            Verdict::GoesOn => logged(Ending::ConeFailure(0), k, q, counts),
         },
         // the sizes always fit here
         Iterated::No => {
-            let rows = Recorded {
+            let counts = RowCounts {
                 written: 0,
                 dropped: 0,
             };
-            logged(Ending::ConeFailure(0), 0, 0, rows)
+            logged(Ending::ConeFailure(0), 0, 0, counts)
         }
     }
 }
 
-fn logged(ending: Ending, steps: u64, rotations: u64, rows: Recorded) -> Logged
-    ensures { λ r. ⌜ r ≡ loggedBy ending steps rotations rows ⌝ }
+fn logged(ending: Ending, steps: u64, rotations: u64, counts: RowCounts) -> Logged
+    ensures { λ r. ⌜ r ≡ loggedBy ending steps rotations counts ⌝ }
 {
     Logged {
         answer: Answer {
@@ -134,7 +134,7 @@ fn logged(ending: Ending, steps: u64, rotations: u64, rows: Recorded) -> Logged
             steps,
             rotations,
         },
-        written: rows.written,
-        dropped: rows.dropped,
+        written: counts.written,
+        dropped: counts.dropped,
     }
 }

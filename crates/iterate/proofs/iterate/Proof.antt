@@ -10,11 +10,11 @@ use Rattle.iterate.proofs.iterate.Statement.{statement}
 use Rattle.iterate.proofs.iterate.Tie as tie
 
 abbrev Inv-loop : tie.InvT-loop
-Inv-loop par shape c a1 a2 b words norms behind given x₀ y₀ dp-tau dp-sigma rx₀ tx₀ cone-work₀ log₀ left₀ k₀ q₀ rows₀ x y rx tx cone-work log left k q rows =
-    Going par shape c (slices a1 a2) b words norms behind given (stateOf x₀ y₀ dp-tau dp-sigma rx₀ tx₀ cone-work₀) log₀ k q left (stateOf x y dp-tau dp-sigma rx tx cone-work) (logWith rows log)
+Inv-loop par shape c a1 a2 b words norms behind given x₀ y₀ dp-tau dp-sigma rx₀ tx₀ cone-work₀ log₀ left₀ k₀ q₀ counts₀ x y rx tx cone-work log left k q counts =
+    Going par shape c (slices a1 a2) b words norms behind given (stateOf x₀ y₀ dp-tau dp-sigma rx₀ tx₀ cone-work₀) log₀ k q left (stateOf x y dp-tau dp-sigma rx tx cone-work) (logWith counts log)
 
 abbrev μ-loop : tie.MeasureT-loop
-μ-loop par shape c a1 a2 b words norms behind given x₀ y₀ dp-tau dp-sigma rx₀ tx₀ cone-work₀ log₀ left₀ k₀ q₀ rows₀ x y rx tx cone-work log left k q rows = left
+μ-loop par shape c a1 a2 b words norms behind given x₀ y₀ dp-tau dp-sigma rx₀ tx₀ cone-work₀ log₀ left₀ k₀ q₀ counts₀ x y rx tx cone-work log left k q counts = left
 
 loop-holds : tie.Need-loop-holds Inv-loop μ-loop
 loop-holds c = going-start _ _ _ _ _ _ _ _ _ _ _

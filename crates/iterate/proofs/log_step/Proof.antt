@@ -1,7 +1,10 @@
 -- `iterate::log_step` meets its contract.
+use Prim.Native.Nat.{_+_, _-_}
+use native.Mathlib.Omega.{arith}
 use mathlib.Core.Path.{_≡_, sym, _∙_}
 use mathlib.Core.Bool.{true, false}
 use borrow.Author.Needs.{needs}
+use lib.ListN.{length}
 use Rattle.rules.specs.Progress.{isDue}
 use Rattle.iterate.proofs.log_step.Statement.{statement}
 use Rattle.iterate.proofs.log_step.Tie as tie
@@ -13,10 +16,10 @@ is-due-requires : tie.Need-is-due-requires
 is-due-requires c κs = search needs
 
 tau-of-requires : tie.Need-tau-of-requires
-tau-of-requires c κs = c .before .before .before .before .before .before .before .pre .0 .like _ _ (c .before .before .before .t .given .1)
+tau-of-requires c κs = omega (arith, c .before .before .before .before .before .before .before .pre .0 .like _ _ (c .before .before .before .t .given .1) .is)
 
 log-row-requires : tie.Need-log-row-requires
-log-row-requires c κs = search needs
+log-row-requires c κs = omega (arith, c .before .before .before .before .before .before .before .before .before .pre .1, c .before .before .before .before .before .before .before .before .before .good)
 
 same-length : tie.Need-same-length
 same-length c = search needs
@@ -25,7 +28,8 @@ returns : tie.Need-returns
 returns c =
     let k = c .before .before .before .before .before .before .before .before .before .before .before .before .args in
     let due : isDue (k .par .«log_period») (k .k) ≡ true = sym (c .before .before .before .before .before .before .is-due .ensures) ∙ c .before .before .before .before .before .if1 .taken in
-    rw (c .before .before .before .before .before .before .before .before .t .given .1, due, ← c .before .before .before .before .tau-of .ensures) (c .before .before .log-row .ensures)
+    let last : length (k .x .now) - 1 ≡ k .shape .cols .0 + k .shape .rows .0 + k .shape .rows .0 = omega (arith, c .before .before .before .before .before .before .before .before .before .before .before .before .pre .0 .like _ _ (c .before .before .before .before .before .before .before .before .t .given .1) .is) in
+    rw (c .before .before .before .before .before .before .before .before .t .given .1, due, ← last, ← c .before .before .before .before .tau-of .ensures) (c .before .before .log-row .ensures)
 
 enum-told : tie.Need-enum-told
 enum-told c = search needs

@@ -27,13 +27,13 @@ logged-requires-3 : tie.Need-logged-requires-3
 logged-requires-3 c κs = search needs
 
 returns : tie.Need-returns
-returns c = λ said k q rows is. c .logged .ensures ∙ answer-ends (sym (c .before .before .before .before .before .ran .given .1) ∙ is) (c .before .before .v .given .1)
+returns c = λ said k q counts is. c .logged .ensures ∙ answer-ends (sym (c .before .before .before .before .before .ran .given .1) ∙ is) (c .before .before .v .given .1)
 
 returns-2 : tie.Need-returns-2
-returns-2 c = λ said k q rows is. c .logged2 .ensures ∙ answer-halts (sym (c .before .before .before .before .ran .given .1) ∙ is) (c .before .enum-told .given .1)
+returns-2 c = λ said k q counts is. c .logged2 .ensures ∙ answer-halts (sym (c .before .before .before .before .ran .given .1) ∙ is) (c .before .enum-told .given .1)
 
 returns-3 : tie.Need-returns-3
-returns-3 c = λ said k q rows is. absurd (none-made (sym (c .before .enum-told2 .given .1) ∙ is))
+returns-3 c = λ said k q counts is. absurd (none-made (sym (c .before .enum-told2 .given .1) ∙ is))
 
 pub answer-of-spec : {M : Type 1} → statement M
 answer-of-spec =

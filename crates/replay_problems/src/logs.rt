@@ -4,18 +4,20 @@ use crate::room;
 use replay::record;
 ghost use mathlib.Core.Path.{_≡_};
 ghost use Rattle.replay.specs.Records.{wordOf, numberOf};
+ghost use Rattle.replay_problems.specs.Logs.{periodOf};
 
 // The number of an answer after which both buffers are left out of a record, since all their places are +0.
 const CONE_FAILURE: u64 = 12;
 
 // The period; what is too large for one counts as none.
-pub fn period(log: &[u8]) -> u32 {
+pub fn period(log: &[u8]) -> u32
+    ensures { λ r. ⌜ r ≡ periodOf (now (log .entry)) ⌝ }
+{
     let period = record::word(log, 0);
     if period < 4294967296 {
-        period as u32
-    } else {
-        0
+        return period as u32;
     }
+    0
 }
 
 // How many places are lent.

@@ -25,6 +25,9 @@ SOLVER_STEPS = 1_000_000
 SOLVER_SWEEPS = 64
 SOLVER_GROUPS = 8
 
+# The columns of a progress record as text.
+RECORD_COLUMNS = ["step", "tau", "primal", "dual", "gap", "unbounded", "infeasible"]
+
 # What the solver's first words mean.
 FAULTS = {
     1: "the file ends before its card does",

@@ -41,7 +41,7 @@ impl Family {
 }
 
 /// What every place of a lent buffer holds.
-fn fill(random: &mut Random) -> f64 {
+pub fn fill(random: &mut Random) -> f64 {
     let negative_nan = f64::from_bits(0xfff8000000000123);
     random.pick(&[
         0.0,

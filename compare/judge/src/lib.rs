@@ -8,6 +8,7 @@ pub mod group_shapes;
 pub mod groups;
 pub mod handed;
 pub mod lists;
+pub mod log_rows;
 pub mod original;
 pub mod problem;
 pub mod random;

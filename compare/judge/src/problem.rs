@@ -9,6 +9,7 @@ use crate::ruled_norm::{Algebra, RuledNorm};
 use crate::ruled_sums::RuledSums;
 use crate::seen::{sight, watch, Number, Seen};
 
+#[derive(Clone)]
 pub struct Problem {
     pub a_type: MatType,
     pub c: Vec<f64>,
@@ -79,8 +80,8 @@ impl Problem {
     }
 
     /// One run over zeroed work. With plain f64 it may never come back: Jacobi has no limit.
-    /// The solver is run over the linear algebra L, its cone list over C.
-    pub fn run<F: Number, L: Algebra<F>, C: Algebra<F>>(&self) -> Bare {
+    /// The solver is run over the linear algebra L, its cone list over C. The period is that of the original's log.
+    pub fn run<F: Number, L: Algebra<F>, C: Algebra<F>>(&self, log_period: usize) -> Bare {
         let (m, n) = self.a_type.size();
         let of = |xs: &[f64]| xs.iter().map(|x| F::of(*x)).collect::<Vec<F>>();
         let plain = |xs: Vec<F>| xs.into_iter().map(F::plain).collect();
@@ -97,7 +98,7 @@ impl Problem {
                 p.eps_acc = F::of(self.eps_acc);
                 p.eps_inf = F::of(self.eps_inf);
                 p.eps_zero = F::of(self.eps_zero);
-                p.log_period = 0;
+                p.log_period = log_period;
             })
             .solve((
                 MatOp::new(MatType::General(n, 1), &c),
@@ -122,7 +123,7 @@ impl Problem {
 
     /// The original as it is, over plain f64.
     pub fn original(&self) -> Bare {
-        self.run::<f64, FloatGeneric<f64>, FloatGeneric<f64>>()
+        self.run::<f64, FloatGeneric<f64>, FloatGeneric<f64>>(0)
     }
 
     /// The watched run, with all that an ending carries.
@@ -140,40 +141,56 @@ impl Problem {
         if answer.large_norms == 0 {
             self.original()
         } else {
-            self.run::<f64, RuledNorm<f64>, RuledNorm<f64>>()
+            self.run::<f64, RuledNorm<f64>, RuledNorm<f64>>(0)
         }
     }
 
     pub fn solve_over<L: Algebra<Seen>, C: Algebra<Seen>>(&self) -> Answer {
+        self.heard_over::<L, C>(0).0
+    }
+
+    /// The watched run with this period of the original's log, and the log's lines in order. The original writes one at each step that is due
+    /// and at the one that ends the run.
+    pub fn heard(&self, log_period: usize) -> (Answer, Vec<Line>) {
+        self.heard_over::<RuledNorm<Seen>, RuledNorm<Seen>>(log_period)
+    }
+
+    fn heard_over<L: Algebra<Seen>, C: Algebra<Seen>>(
+        &self,
+        log_period: usize,
+    ) -> (Answer, Vec<Line>) {
         watch(self.sweep_limit);
         log::listen();
-        let mut run = self.run::<Seen, L, C>();
-        let line = log::heard().unwrap_or_default();
+        let mut run = self.run::<Seen, L, C>(log_period);
+        let heard = log::heard();
         let seen = sight();
+        let lines: Vec<Line> = heard.iter().filter_map(|line| Line::read(line)).collect();
+        let last = lines.last().map(|line| line.criteria);
 
-        let ending = match run.verdict {
-            Ok(()) => Ending::Converged(criteria(&line, "pri_dual_gap")),
-            Err(SolverError::ExcessIter) if line.contains("pri_dual_gap") => {
-                Ending::ExcessIter(criteria(&line, "pri_dual_gap"))
+        let ending = match (&run.verdict, last) {
+            (Ok(()), Some(Criteria::Convergence(all))) => Ending::Converged(all),
+            (Err(SolverError::ExcessIter), Some(Criteria::Convergence(all))) => {
+                Ending::ExcessIter(all)
             }
-            Err(SolverError::ExcessIter) => {
-                Ending::ExcessIterUnscaled(criteria(&line, "unbdd_infeas"))
+            (Err(SolverError::ExcessIter), Some(Criteria::Others(both))) => {
+                Ending::ExcessIterUnscaled(both)
             }
-            Err(SolverError::Unbounded) => {
-                Ending::Unbounded(criteria::<2>(&line, "unbdd_infeas")[0])
+            (Err(SolverError::Unbounded), Some(Criteria::Others([unbounded, _]))) => {
+                Ending::Unbounded(unbounded)
             }
-            Err(SolverError::Infeasible) => {
-                Ending::Infeasible(criteria::<2>(&line, "unbdd_infeas")[1])
+            (Err(SolverError::Infeasible), Some(Criteria::Others([_, infeasible]))) => {
+                Ending::Infeasible(infeasible)
             }
-            Err(SolverError::ConeFailure) => {
+            (Err(SolverError::ConeFailure), _) => {
                 // The rule clears both buffers; the original leaves them where it stood.
                 run.work.fill(0.0);
                 run.cone_work.fill(0.0);
                 Ending::ConeFailure(run.progress.failed.expect("a failed block"))
             }
-            Err(e) => panic!("the problem doesn't fit: {e}"),
+            (Err(e), _) => panic!("the problem doesn't fit: {e}"),
+            (Ok(()), _) => panic!("no line of a run that converged"),
         };
-        Answer {
+        let answer = Answer {
             ending,
             k: run.progress.steps,
             q: seen.rotations,
@@ -182,13 +199,44 @@ impl Problem {
             other_zeros: seen.other_zeros,
             unlike_zeros: seen.unlike_zeros,
             large_norms: seen.large_norms,
-        }
+        };
+        (answer, lines)
     }
 }
 
-/// The criteria of a line such as "0: pri_dual_gap 3ff0... 0000... 0000...".
-fn criteria<const N: usize>(line: &str, name: &str) -> [f64; N] {
-    let (_, tail) = line.split_once(name).expect("the criteria's line");
+#[derive(Clone, Copy, Debug, PartialEq)]
+pub enum Criteria {
+    /// Primal, dual and gap.
+    Convergence([f64; 3]),
+    /// Unbounded and infeasible.
+    Others([f64; 2]),
+}
+
+/// A line of the original's log.
+pub struct Line {
+    /// The original counts its steps from 0, here they are counted from 1.
+    pub step: u64,
+    pub criteria: Criteria,
+}
+
+impl Line {
+    /// A line such as "0: pri_dual_gap 3ff0... 0000... 0000..."; none if it is not about a step.
+    fn read(text: &str) -> Option<Line> {
+        let criteria = if let Some((_, tail)) = text.split_once(" pri_dual_gap ") {
+            Criteria::Convergence(criteria(tail))
+        } else {
+            let (_, tail) = text.split_once(" unbdd_infeas ")?;
+            Criteria::Others(criteria(tail))
+        };
+        let (number, _) = text.split_once(':').expect("a step's number");
+        let before: u64 = number.parse().expect("a step's number");
+        let step = before + 1;
+        Some(Line { step, criteria })
+    }
+}
+
+/// The criteria at the end of a line.
+fn criteria<const N: usize>(tail: &str) -> [f64; N] {
     let mut values = tail.split_whitespace();
     let all = std::array::from_fn(|_| {
         let hex = values.next().expect("a criterion");

@@ -15,10 +15,14 @@ use Rattle.rules.specs.Parameters.{paramOf}
 use Rattle.rules.specs.Problem.{Problem, problemOf}
 use Rattle.rules.specs.Run.{Left}
 use Rattle.rules.specs.Refusals.{solved}
+use Rattle.rules.specs.Progress.{LoggedLeft, loggedSolved}
+use Rattle.rules.specs.Demands.{withPeriod}
 use Rattle.card.specs.Card.{Card, Reading, fault, read, numbersOfA, readCard}
 use Rattle.card.specs.Outcome.{rowsOf, colsOf}
 use Rattle.card_answer.specs.declared.Told.{Told}
 use Rattle.card_answer.specs.declared.Told.the-variants.{Fault, Answered}
+use Rattle.card_answer.specs.declared.ToldLogged.{ToldLogged}
+use Rattle.card_answer.specs.declared.ToldLogged.the-variants.{Fault as LoggedFault, Answered as LoggedAnswer}
 
 -- ---- "eps_acc, eps_inf, eps_zero, c, A, b"
 
@@ -83,7 +87,32 @@ pub record CardOutcome (bytes : List ℕ) (work : List Float) (told : Told) (wor
   pub answered : told ≡ toldOf (readCard bytes) work
   pub work-left : work' ≡ workAfter (readCard bytes) work
 
+-- ---- the same with a progress record: document 02, (x). "Cards themselves run without a record", so this is a door of its own
+
+-- the problem with this log_period, over the record that is lent
+abbrev pub loggedLeftOf : ℕ → Problem → List Float → List Float → LoggedLeft
+loggedLeftOf period p work log = loggedSolved (withPeriod period p) work (replicate conePlaces +0) log
+
+-- m and n, and what the run answers, with the rows written and dropped
+abbrev pub loggedToldOf : Reading → ℕ → List Float → List Float → ToldLogged
+loggedToldOf (fault f) period work log = LoggedFault f
+loggedToldOf (read k) period work log = LoggedAnswer (rowsOf k) (colsOf k) (loggedLeftOf period (problemOfCard k) work log .answer)
+
+abbrev pub loggedWorkAfter : Reading → ℕ → List Float → List Float → List Float
+loggedWorkAfter (fault f) period work log = work
+loggedWorkAfter (read k) period work log = loggedLeftOf period (problemOfCard k) work log .work
+
+abbrev pub recordAfter : Reading → ℕ → List Float → List Float → List Float
+recordAfter (fault f) period work log = log
+recordAfter (read k) period work log = loggedLeftOf period (problemOfCard k) work log .log
+
+pub record CardLogOutcome (bytes : List ℕ) (period : ℕ) (work log : List Float) (told : ToldLogged) (work' log' : List Float) : Type 0 where
+  pub answered : told ≡ loggedToldOf (readCard bytes) period work log
+  pub work-left : work' ≡ loggedWorkAfter (readCard bytes) period work log
+  pub log-left : log' ≡ recordAfter (readCard bytes) period work log
+
 -- the same of a card's fields
-pub record FieldsOutcome (packed : Bool) (rows : Rows) (cols : Cols) (words : List ℕ) (maxIter sweepLimit : ℕ) (numbers : List ℕ) (work : List Float) (told : Told) (work' : List Float) : Type 0 where
-  pub answered : told ≡ answeredOf rows cols (leftOf (problemFrom packed rows cols words maxIter sweepLimit numbers) work)
-  pub work-left : work' ≡ leftOf (problemFrom packed rows cols words maxIter sweepLimit numbers) work .work
+pub record FieldsOutcome (packed : Bool) (rows : Rows) (cols : Cols) (words : List ℕ) (maxIter sweepLimit : ℕ) (numbers : List ℕ) (period : ℕ) (work log : List Float) (told : ToldLogged) (work' log' : List Float) : Type 0 where
+  pub answered : told ≡ LoggedAnswer rows cols (loggedLeftOf period (problemFrom packed rows cols words maxIter sweepLimit numbers) work log .answer)
+  pub work-left : work' ≡ loggedLeftOf period (problemFrom packed rows cols words maxIter sweepLimit numbers) work log .work
+  pub log-left : log' ≡ loggedLeftOf period (problemFrom packed rows cols words maxIter sweepLimit numbers) work log .log

@@ -1,8 +1,8 @@
 // What becomes of a card: its problem is solved.
 use card::CardRead;
-use rules::Answer;
 use rules::Cols;
 use rules::Ending;
+use rules::Logged;
 use rules::Rows;
 use rules::SolverParam;
 use rules::Storage;
@@ -10,13 +10,20 @@ ghost use Prim.Native.Nat.{_+_, _≤_};
 ghost use mathlib.Core.Path.{_≡_};
 ghost use mathlib.Core.List.{_++_};
 ghost use lib.ListN.{length, drop, take};
-ghost use Rattle.rules.specs.Refusals.{SolveOutcome};
-ghost use Rattle.card_answer.specs.Answer.{numbersAt, parametersOf, storageOf, problemFrom, FieldsOutcome, CardOutcome};
+ghost use Rattle.rules.specs.Progress.{LoggedOutcome};
+ghost use Rattle.rules.specs.Demands.{withPeriod};
+ghost use Rattle.card_answer.specs.Answer.{numbersAt, parametersOf, storageOf, problemFrom, FieldsOutcome, CardLogOutcome, CardOutcome};
 
 // The card's fault; or m and n, how its problem ended or why it was turned away, k and q.
 pub enum Told {
     Fault(u8),
     Answered(Rows, Cols, Ending, u64, u64),
+}
+
+// The same with a progress record: what was answered has its rows written and dropped too.
+pub enum ToldLogged {
+    Fault(u8),
+    Answered(Rows, Cols, Logged),
 }
 
 // How many words and how many numbers a card may have.
@@ -93,7 +100,7 @@ fn storage_of(packed: bool) -> Storage
     }
 }
 
-// Solves the problem of these fields.
+// Solves the problem of these fields, with a progress record.
 fn solve_fields(
     packed: bool,
     rows: Rows,
@@ -102,16 +109,20 @@ fn solve_fields(
     max_iter: u64,
     sweep_limit: u64,
     numbers: &[u64],
+    period: u32,
     work: &mut [f64],
     cone_work: &mut [f64],
-) -> Answer
+    log: &mut [f64],
+) -> Logged
     requires { ⌜ rows .0 ≤ 32 ⌝ }
     requires { ⌜ cols .0 ≤ 32 ⌝ }
     requires { ⌜ 1091 ≤ length (now numbers) ⌝ }
     ensures { λ r. ⌜
-        SolveOutcome
-        (problemFrom packed rows cols (now (words .entry)) «max_iter» «sweep_limit» (now (numbers .entry)))
-        (now (work .entry)) (now («cone_work» .entry)) r (now (work .exit)) (now («cone_work» .exit))
+        LoggedOutcome
+        (withPeriod period
+        (problemFrom packed rows cols (now (words .entry)) «max_iter» «sweep_limit» (now (numbers .entry))))
+        (now (work .entry)) (now («cone_work» .entry)) (now (log .entry))
+        r (now (work .exit)) (now («cone_work» .exit)) (now (log .exit))
         ⌝ }
 {
     let m = rows.0;
@@ -120,8 +131,9 @@ fn solve_fields(
     let c = vector(numbers, 3, n);
     let a = matrix(numbers, 3 + n, count);
     let b = vector(numbers, 3 + n + count, m);
-    solver::solve(
-        parameters(numbers, max_iter, sweep_limit),
+    let par = parameters(numbers, max_iter, sweep_limit);
+    solver::solve_logged(
+        SolverParam::with_log_period(par, period),
         rows,
         cols,
         storage_of(packed),
@@ -131,6 +143,7 @@ fn solve_fields(
         words,
         work,
         cone_work,
+        log,
     )
 }
 
@@ -144,19 +157,22 @@ fn answer_fields(
     sweep_limit: u64,
     words: &[u16],
     numbers: &[u64],
+    period: u32,
     work: &mut [f64],
-) -> Told
+    log: &mut [f64],
+) -> ToldLogged
     requires { ⌜ rows .0 ≤ 32 ⌝ }
     requires { ⌜ cols .0 ≤ 32 ⌝ }
     requires { ⌜ count ≤ length (now words) ⌝ }
     requires { ⌜ 1091 ≤ length (now numbers) ⌝ }
     ensures { λ r. ⌜
         FieldsOutcome packed rows cols (take count (now (words .entry))) «max_iter» «sweep_limit»
-        (now (numbers .entry)) (now (work .entry)) r (now (work .exit))
+        (now (numbers .entry)) period (now (work .entry)) (now (log .entry))
+        r (now (work .exit)) (now (log .exit))
         ⌝ }
 {
     let mut cone_work = [0.0; CONE_WORK];
-    let answer = solve_fields(
+    let logged = solve_fields(
         packed,
         rows,
         cols,
@@ -164,22 +180,41 @@ fn answer_fields(
         max_iter,
         sweep_limit,
         numbers,
+        period,
         work,
         &mut cone_work,
+        log,
     );
-    let ending = answer.ending;
-    Told::Answered(rows, cols, ending, answer.steps, answer.rotations)
+    ToldLogged::Answered(rows, cols, logged)
 }
 
 // Reads a card and solves its problem in the work that is lent.
 pub fn answer(bytes: &[u8], work: &mut [f64]) -> Told
     ensures { λ r. ⌜ CardOutcome (now (bytes .entry)) (now (work .entry)) r (now (work .exit)) ⌝ }
 {
+    let mut none = [0.0; 0];
+    match logged_answer(bytes, 0, work, &mut none) {
+        ToldLogged::Fault(f) => Told::Fault(f),
+        ToldLogged::Answered(rows, cols, logged) => {
+            let answer = logged.answer;
+            let ending = answer.ending;
+            Told::Answered(rows, cols, ending, answer.steps, answer.rotations)
+        }
+    }
+}
+
+// The same with this log_period and a progress record.
+pub fn logged_answer(bytes: &[u8], period: u32, work: &mut [f64], log: &mut [f64]) -> ToldLogged
+    ensures { λ r. ⌜
+        CardLogOutcome (now (bytes .entry)) period (now (work .entry)) (now (log .entry))
+        r (now (work .exit)) (now (log .exit))
+        ⌝ }
+{
     let mut words = [0u16; CARD_WORDS];
     let mut numbers = [0u64; NUMBERS];
     match card::read_card(bytes, &mut words, &mut numbers) {
-        CardRead::No => Told::Fault(0),
-        CardRead::Fault(f) => Told::Fault(f),
+        CardRead::No => ToldLogged::Fault(0),
+        CardRead::Fault(f) => ToldLogged::Fault(f),
         CardRead::Read(packed, rows, cols, count, max_iter, sweep_limit) => {
             answer_fields(
                 packed,
@@ -190,7 +225,9 @@ pub fn answer(bytes: &[u8], work: &mut [f64]) -> Told
                 sweep_limit,
                 &words,
                 &numbers,
+                period,
                 work,
+                log,
             )
         }
     }

@@ -29,11 +29,11 @@ same-decimal : (n : ℕ) (s t : List ℕ) → Decimal n s → Decimal n t → s 
 same-decimal n s t d e =
     d .spelled ∙ ap (λ (k : ℕ). digits 10 k n) (same-places n (d .places) (e .places) (d .fewest) (e .fewest)) ∙ sym (e .spelled)
 
-same-numbered : (word : List ℕ) (n : ℕ) (s t : List ℕ) → Numbered word n s → Numbered word n t → s ≡ t
+pub same-numbered : (word : List ℕ) (n : ℕ) (s t : List ℕ) → Numbered word n s → Numbered word n t → s ≡ t
 same-numbered word n s t d e =
     d .is ∙ ap (λ (l : List ℕ). word ++ l ++ newline) (same-decimal n (d .number) (e .number) (d .is-number) (e .is-number)) ∙ sym (e .is)
 
-same-first : (name : List ℕ) (k q : ℕ) (s t : List ℕ) → FirstLine name k q s → FirstLine name k q t → s ≡ t
+pub same-first : (name : List ℕ) (k q : ℕ) (s t : List ℕ) → FirstLine name k q s → FirstLine name k q t → s ≡ t
 same-first name k q s t d e =
     d .is ∙ rw (same-decimal k (d .steps) (e .steps) (d .is-steps) (e .is-steps), same-decimal q (d .rotations) (e .rotations) (d .is-rotations) (e .is-rotations)) (sym (e .is))
 

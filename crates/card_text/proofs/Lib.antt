@@ -4,3 +4,4 @@ pub mod Whole
 pub mod Coincide
 pub mod EmptyCard
 pub mod AnyNan
+pub mod FirstLines

@@ -15,9 +15,10 @@ use Rattle.card.specs.Card.{Reading, fault, read, readCard}
 use Rattle.card.specs.Outcome.{answerOf, rowsOf as cardRows, colsOf as cardCols}
 use Rattle.card.proofs.Found.{n-most, m-most}
 use Rattle.card_answer.specs.Answer.{workPlaces, toldOf, CardOutcome}
-use Rattle.card_text.specs.Text.{textRoom, ToldText, Says, TextOutcome}
+use Rattle.card_text.specs.Text.{textRoom, ToldText, Says, TextOutcome, LoggedLine, FirstLineOutcome}
 use Rattle.card_text.specs.Growing.{columnsOf, rowsOf}
 use Rattle.card_answer.specs.declared.Told.{Told}
+use Rattle.card_answer.specs.declared.ToldLogged.{ToldLogged}
 
 -- ---- x and y are no longer than n and m
 
@@ -63,3 +64,13 @@ pub text-written : (bytes before : List ℕ) (told : Told) (work' : List Float) 
     → TextOutcome bytes before count after
 text-written bytes before told work' count after h g o t =
     record { inside = g; too-short = λ l. absurd (omega arith); written = λ _. rw (o .answered, o .work-left) at t }
+
+-- ---- the first line alone
+
+pub line-too-short : (told : ToldLogged) (before : List ℕ) → length before < textRoom → FirstLineOutcome told before 0 before
+line-too-short told before h = record { inside = omega arith; too-short = λ _. (refl, refl); written = λ g. absurd (omega arith) }
+
+pub line-written : (told : ToldLogged) (before : List ℕ) (count : ℕ) (after : List ℕ) → textRoom ≤ length before → length after ≡ length before → count ≤ textRoom → Says (LoggedLine told) before count after
+    → Counts count after × FirstLineOutcome told before count after
+line-written told before count after h kept few t =
+    (counts count after few (omega arith), record { inside = omega arith; too-short = λ l. absurd (omega arith); written = λ _. t })

@@ -15,6 +15,8 @@ use Rattle.card.specs.Card.{Reading, readCard}
 use Rattle.card_answer.specs.Answer.{workPlaces, toldOf, workAfter}
 use Rattle.card_answer.specs.declared.Told.{Told}
 use Rattle.card_answer.specs.declared.Told.the-variants.{Fault, Answered}
+use Rattle.card_answer.specs.declared.ToldLogged.{ToldLogged}
+use Rattle.card_answer.specs.declared.ToldLogged.the-variants.{Fault as LoggedFault, Answered as LoggedAnswer}
 
 abbrev pub newline : List ℕ
 newline = 10 ∷ []
@@ -119,3 +121,14 @@ pub record TextOutcome (bytes before : List ℕ) (count : ℕ) (after : List ℕ
   pub inside : count ≤ length after
   pub too-short : length before < textRoom → (count ≡ 0) × (after ≡ before)
   pub written : textRoom ≤ length before → Says (CardText (readCard bytes)) before count after
+
+-- ---- the first line alone, of a card that was solved with a progress record: that of an answer without x and y
+
+abbrev pub LoggedLine : ToldLogged → List ℕ → Type 0
+LoggedLine (LoggedFault f) = Numbered card f
+LoggedLine (LoggedAnswer rows cols logged) = AnswerText (logged .answer .ending) (logged .answer .steps) (logged .answer .rotations) [] []
+
+pub record FirstLineOutcome (told : ToldLogged) (before : List ℕ) (count : ℕ) (after : List ℕ) : Type 0 where
+  pub inside : count ≤ length after
+  pub too-short : length before < textRoom → (count ≡ 0) × (after ≡ before)
+  pub written : textRoom ≤ length before → Says (LoggedLine told) before count after

@@ -3,6 +3,7 @@ mod bytes;
 mod text_lines;
 
 use card_answer::Told;
+use card_answer::ToldLogged;
 use rules::Ending;
 use text_lines::put_ended;
 use text_lines::put_numbered;
@@ -10,7 +11,7 @@ use text_lines::refusal_of;
 ghost use Prim.Native.Nat.{_≤_};
 ghost use lib.ListN.{length};
 ghost use Rattle.io.specs.Counts.{Counts};
-ghost use Rattle.card_text.specs.Text.{Says, AnswerText, ToldText, TextOutcome};
+ghost use Rattle.card_text.specs.Text.{Says, AnswerText, ToldText, TextOutcome, FirstLineOutcome};
 ghost use Rattle.card_text.specs.Growing.{columnsOf, rowsOf};
 
 // A buffer of so many bytes holds the text of any card, and a few more.
@@ -73,4 +74,23 @@ pub fn answer_text(card: &[u8], text: &mut [u8]) -> usize
     let mut work = [0.0; card_answer::WORK];
     let told = card_answer::answer(card, &mut work);
     put_told(text, told, &work)
+}
+
+// Puts the first line of that alone, for a card that was solved with a progress record.
+pub fn first_line(told: ToldLogged, text: &mut [u8]) -> usize
+    ensures { λ r. ⌜ Counts r (now (text .exit)) ⌝ }
+    ensures { λ r. ⌜ FirstLineOutcome told (now (text .entry)) r (now (text .exit)) ⌝ }
+{
+    if TEXT_ROOM > text.len() {
+        return 0;
+    }
+    let none = [0.0; 0];
+    match told {
+        ToldLogged::Fault(number) => put_numbered(text, b"Card ", number as u64),
+        ToldLogged::Answered(_, _, logged) => {
+            let answer = logged.answer;
+            let ending = answer.ending;
+            put_answer(text, ending, answer.steps, answer.rotations, &none, &none)
+        }
+    }
 }

@@ -1,3 +1,4 @@
 pub mod Steps
+pub mod Logged
 pub mod Runs
 pub mod Outcomes

@@ -1,25 +1,47 @@
 -- What the loop learns of one step, and how many rotations that may make.
 use Prim.Native.Nat.{ℕ, _+_, _*_, _≤_}
 use native.Mathlib.Omega.{arith}
-use mathlib.Core.Path.{_≡_, refl}
-use mathlib.Core.Bool.{Bool, true, false}
+use mathlib.Core.Path.{_≡_, refl, _∙_}
+use mathlib.Core.Bool.{Bool, true, false, cond}
 use mathlib.Core.List.{List, _++_}
 use lib.Ieee.{Float}
 use lib.ListN.{drop}
+use Rattle.rules.specs.declared.Criteria.{Criteria}
 use Rattle.rules.specs.declared.Norms.{Norms}
+use Rattle.rules.specs.declared.SolverParam.{SolverParam}
 use Rattle.rules.specs.declared.Verdict.{Verdict}
 use Rattle.rules.specs.Limits.{limit, mostSweeps}
-use Rattle.rules.specs.Product.{Passed, projAll, isNone}
+use Rattle.rules.specs.Product.{Failure, none, block, Passed, projAll, isNone}
 use Rattle.rules.specs.Problem.{Problem, embed, blocks}
 use Rattle.rules.specs.Step.{State, movedX, projected, updated, xX, xY, xS}
 use Rattle.rules.specs.Run.{wholeStep, verdict}
 use Rattle.project.specs.Project.{ConesReady}
 use Rattle.project.proofs.Cones.{pass-rotations}
 use Rattle.whole_step.specs.declared.StepAnswer.{StepAnswer}
-use Rattle.whole_step.specs.declared.StepAnswer.the-variants.{Said, No}
-use Rattle.whole_step.specs.WholeStep.{leftByStep, WholeStepOutcome}
+use Rattle.whole_step.specs.declared.StepAnswer.the-variants.{No as NoStep}
+use Rattle.whole_step.specs.WholeStep.{leftByStep, stepAnswer, WholeStepOutcome}
+use Rattle.iterate.specs.declared.StepSaid.{StepSaid}
+use Rattle.iterate.specs.declared.StepSaid.the-variants.{Said, No}
+use Rattle.iterate.specs.Said.{saidBy}
 
 -- ---- one step
+
+-- What step k says and its rotations, where all fits, and no where it doesn't; and what it leaves.
+pub record SaidOutcome (fits : Bool) (p : Problem) (ns : Norms) (k : ℕ) (s : State) (answer : StepSaid) (s' : State) : Type 0 where
+  pub answered : answer ≡ cond fits (Said (verdict (p .par) k (wholeStep p ns s .failure) (wholeStep p ns s .criteria)) (wholeStep p ns s .rotations)) No
+  pub left : s' ≡ cond fits (leftByStep p ns s) s
+
+said-of : (par : SolverParam) (k : ℕ) (failure : Failure) (criteria : Criteria) (q : ℕ) → saidBy par k (stepAnswer criteria q failure) ≡ Said (verdict par k failure criteria) q
+unfolding verdict
+said-of par k none criteria q = refl
+said-of par k (block b) criteria q = refl
+
+pub said-outcome : {fits : Bool} {p : Problem} {ns : Norms} {k : ℕ} {s : State} {answer : StepAnswer} {said : StepSaid} {s' : State} → WholeStepOutcome fits p ns s answer s' → said ≡ saidBy (p .par) k answer → SaidOutcome fits p ns k s said s'
+said-outcome {fits} {p} {ns} {k} {s} o e = record { answered = e ∙ rw (o .answered) (go fits); left = o .left }
+  where
+    go : (t : Bool) → saidBy (p .par) k (cond t (stepAnswer (wholeStep p ns s .criteria) (wholeStep p ns s .rotations) (wholeStep p ns s .failure)) NoStep) ≡ cond t (Said (verdict (p .par) k (wholeStep p ns s .failure) (wholeStep p ns s .criteria)) (wholeStep p ns s .rotations)) No
+    go true = said-of (p .par) k (wholeStep p ns s .failure) (wholeStep p ns s .criteria) (wholeStep p ns s .rotations)
+    go false = refl
 
 -- Step k from s: what it says, its rotations, and what it leaves.
 pub record SteppedBy (p : Problem) (ns : Norms) (k : ℕ) (s : State) (said : Verdict) (made : ℕ) (s' : State) : Type 0 where
@@ -28,18 +50,18 @@ pub record SteppedBy (p : Problem) (ns : Norms) (k : ℕ) (s : State) (said : Ve
   pub left : s' ≡ leftByStep p ns s
 
 -- a step that says something had sizes that fit
-pub said-by : {fits : Bool} {p : Problem} {ns : Norms} {k : ℕ} {s : State} {answer : StepAnswer} {said : Verdict} {made : ℕ} {s' : State} → WholeStepOutcome fits p ns k s answer s' → answer ≡ Said said made → (fits ≡ true) × SteppedBy p ns k s said made s'
+pub said-by : {fits : Bool} {p : Problem} {ns : Norms} {k : ℕ} {s : State} {answer : StepSaid} {said : Verdict} {made : ℕ} {s' : State} → SaidOutcome fits p ns k s answer s' → answer ≡ Said said made → (fits ≡ true) × SteppedBy p ns k s said made s'
 said-by {fits} o is = go fits (rw is at o)
   where
-    go : (t : Bool) {p : Problem} {ns : Norms} {k : ℕ} {s : State} {said : Verdict} {made : ℕ} {s' : State} → WholeStepOutcome t p ns k s (Said said made) s' → (t ≡ true) × SteppedBy p ns k s said made s'
+    go : (t : Bool) {p : Problem} {ns : Norms} {k : ℕ} {s : State} {said : Verdict} {made : ℕ} {s' : State} → SaidOutcome t p ns k s (Said said made) s' → (t ≡ true) × SteppedBy p ns k s said made s'
     go true o = let e = o .answered in (refl, record { says = cc; counts = cc; left = o .left })
     go false o = let e = o .answered in let z : _≡_ {A = ℕ} 0 1 = cc in absurd (omega arith)
 
 -- one that says nothing had not, and left all as it was
-pub nothing-said : {fits : Bool} {p : Problem} {ns : Norms} {k : ℕ} {s : State} {answer : StepAnswer} {s' : State} → WholeStepOutcome fits p ns k s answer s' → answer ≡ No → (fits ≡ false) × (s' ≡ s)
+pub nothing-said : {fits : Bool} {p : Problem} {ns : Norms} {k : ℕ} {s : State} {answer : StepSaid} {s' : State} → SaidOutcome fits p ns k s answer s' → answer ≡ No → (fits ≡ false) × (s' ≡ s)
 nothing-said {fits} o is = go fits (rw is at o)
   where
-    go : (t : Bool) {p : Problem} {ns : Norms} {k : ℕ} {s s' : State} → WholeStepOutcome t p ns k s No s' → (t ≡ false) × (s' ≡ s)
+    go : (t : Bool) {p : Problem} {ns : Norms} {k : ℕ} {s s' : State} → SaidOutcome t p ns k s No s' → (t ≡ false) × (s' ≡ s)
     go true o = let e = o .answered in let z : _≡_ {A = ℕ} 0 1 = cc in absurd (omega arith)
     go false o = (refl, o .left)
 

@@ -1,1 +1,3 @@
+pub mod Said
+pub mod Record
 pub mod Iterate

@@ -42,6 +42,38 @@ pub fn write_total(name: &[u8], whole: bool, records: u64, agree: u64, differ: u
     write_counts(records, agree, std::num::wrapping_add_u64(differ, 1));
 }
 
+// Writes the name of an answer: of a refusal by its number up to 6, and then of an ending; whether there is one of this number.
+pub fn write_answer(number: usize) -> bool {
+    if number <= 6 {
+        return write_refusal(number);
+    }
+    write_ending(number)
+}
+
+fn write_refusal(number: usize) -> bool {
+    match number {
+        1 => io::write_all(STDOUT_FILENO, b"BadParam"),
+        2 => io::write_all(STDOUT_FILENO, b"TooLarge"),
+        3 => io::write_all(STDOUT_FILENO, b"InvalidOp"),
+        4 => io::write_all(STDOUT_FILENO, b"BadCone"),
+        5 => io::write_all(STDOUT_FILENO, b"NotFinite"),
+        6 => io::write_all(STDOUT_FILENO, b"WorkShortage"),
+        _ => false,
+    }
+}
+
+fn write_ending(number: usize) -> bool {
+    match number {
+        7 => io::write_all(STDOUT_FILENO, b"Converged"),
+        8 => io::write_all(STDOUT_FILENO, b"ExcessIter, scaled"),
+        9 => io::write_all(STDOUT_FILENO, b"ExcessIter, unscaled"),
+        10 => io::write_all(STDOUT_FILENO, b"Unbounded"),
+        11 => io::write_all(STDOUT_FILENO, b"Infeasible"),
+        12 => io::write_all(STDOUT_FILENO, b"ConeFailure"),
+        _ => false,
+    }
+}
+
 // Writes whether a case holds, after its name.
 pub fn write_case(holds: bool) -> bool {
     if holds {

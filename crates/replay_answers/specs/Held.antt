@@ -1,17 +1,17 @@
 -- What a run answered and left, held to a record. From a place on the record has: the answer's number, k, q, three words of what the
 -- ending carries, the required places of work and of cone work, and then what these places hold.
-use Prim.Native.Nat.{ℕ, _+_, _/_}
+use Prim.Native.Nat.{ℕ, _+_, _*_, _/_}
 use mathlib.Core.Bool.{Bool, cond, _&&_}
 use mathlib.Core.List.{List, [], _++_}
 use lib.Dec.{eqb}
-use lib.Ieee.{Float}
+use lib.Ieee.{Float, binary64, toBits}
 use lib.ListN.{length, take}
 use Rattle.rules.specs.declared.Ending.{Ending}
 use Rattle.rules.specs.declared.Ending.the-variants.{ConeFailure}
 use Rattle.rules.specs.Outcome.{OnPaper, turned-away, ends, onPaper}
 use Rattle.rules.specs.Prepare.{zeros}
 use Rattle.rules.specs.Product.{none, block}
-use Rattle.replay.specs.Records.{wordOf, standFrom, standBefore}
+use Rattle.replay.specs.Records.{wordOf, numberOf, standFrom, standBefore}
 use Rattle.replay_answers.specs.Numbers.{numberInLists}
 
 -- criteria as three numbers; where there are fewer, +0 after them
@@ -38,3 +38,8 @@ isLeft bytes at pattern work cone =
     let used = wordOf bytes (at + 6) in
     let coneUsed = wordOf bytes (at + 7) in
     standBefore bytes (at + 8) work used pattern && standBefore bytes (at + 8 + used) cone coneUsed pattern && endsAfter bytes at used coneUsed
+
+-- a log and the counts of its rows are as these words say: the period, the log's places, what each of them held before, the rows written, the rows dropped, and then
+-- the rows; all places after them hold what they held, and nothing follows
+unfoldable pub isLogged : List ℕ → ℕ → ℕ → List Float → Bool
+isLogged bytes written dropped log = eqb (wordOf bytes 3) written && eqb (wordOf bytes 4) dropped && standBefore bytes 5 log (4 * written) (toBits binary64 (numberOf bytes 2)) && eqb (length bytes / 8) (5 + 4 * written)

@@ -14,7 +14,7 @@ ghost use Rattle.replay.specs.Records.{standFrom};
 ghost use Rattle.rules.specs.Outcome.{onPaper};
 ghost use Rattle.rules.specs.Run.{solutionY};
 ghost use Rattle.replay_answers.specs.Numbers.{numberInLists};
-ghost use Rattle.replay_answers.specs.Held.{threeOf, carried, isTold, endsAfter, isLeft};
+ghost use Rattle.replay_answers.specs.Held.{threeOf, carried, isTold, endsAfter, isLeft, isLogged};
 
 // The number of an answer whose places of work are left out, since all are +0.
 const CONE_FAILURE: u64 = 12;
@@ -115,6 +115,28 @@ fn is_end(record: &[u8], at: usize, work_used: usize, cone_used: usize) -> bool
         return record::words(record) == at + 8;
     }
     record::words(record) == at + 8 + work_used + cone_used
+}
+
+// Whether a log is left, and its rows counted, as the words say that a record has after those of the run: the period, the log's places, what each of
+// them held before, the rows written and dropped, and then the rows. All places after the rows are as before.
+pub fn is_logged(words: &[u8], written: u64, dropped: u64, log: &[f64]) -> bool
+    ensures { λ r. ⌜ r ≡ isLogged (now (words .entry)) written dropped (now (log .entry)) ⌝ }
+{
+    if record::word(words, 3) != written {
+        return false;
+    }
+    if record::word(words, 4) != dropped {
+        return false;
+    }
+    let rows = written as usize;
+    if rows > log.len() / 4 {
+        return false;
+    }
+    let before = patterns::pattern_of(record::number(words, 2));
+    if !record::holds_before(words, 5, log, 4 * rows, before) {
+        return false;
+    }
+    record::words(words) == 5 + 4 * rows
 }
 
 // Whether x and y are handed back as the first places of work and the next, or none where work is too

@@ -1,3 +1,5 @@
 // A record's problem, run again and compared.
+pub mod cuts;
+pub mod logs;
 pub mod room;
 pub mod runs;

@@ -15,6 +15,9 @@ pub const CONE_ROOM: usize = 2 * LIMIT;
 
 pub const WORD_ROOM: usize = MOST_WORDS + 8;
 
+// How many places a log may have. The longest of the list has 916.
+pub const LOG_ROOM: usize = 1024;
+
 // A vector in a record: number k of its length is the one at k mod given after its place.
 pub(crate) struct Vector {
     pub(crate) length: usize,

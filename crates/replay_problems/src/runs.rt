@@ -1,9 +1,11 @@
 // A record's problem, run and compared.
+use crate::logs;
 use crate::room;
 use crate::room::Vector;
 use replay::record;
 use rules::Answer;
 use rules::Cols;
+use rules::Logged;
 use rules::Rows;
 use rules::SolverParam;
 use rules::Storage;
@@ -30,6 +32,11 @@ const BLOCKS_AT: usize = 8;
 
 // Runs a record's problem and compares. The original ran it over the whole matrix, so a record says what comes of any cut.
 pub fn replay(record: &[u8], cut: Cut, a_room: &mut [f64]) -> Found {
+    replay_logged(record, &record[0..0], cut, a_room)
+}
+
+// The same with a progress record, of which the words after those of the run tell. Where there are none it is run without one.
+pub fn replay_logged(record: &[u8], log: &[u8], cut: Cut, a_room: &mut [f64]) -> Found {
     let blocks = record::size(record, BLOCKS_AT);
     if blocks > room::WORD_ROOM {
         return Found::Unknown;
@@ -45,6 +52,7 @@ pub fn replay(record: &[u8], cut: Cut, a_room: &mut [f64]) -> Found {
     let lent_at = room::after(b);
     let agrees = takes(
         record,
+        log,
         cut,
         lent_at,
         c,
@@ -110,6 +118,7 @@ fn in_first(record: &[u8], cut: Cut, length: usize) -> usize {
 // Takes the vectors out of the record. The second slice is put before the first, so that the two don't stand in the matrix's order.
 fn takes(
     record: &[u8],
+    log: &[u8],
     cut: Cut,
     lent_at: usize,
     c: Vector,
@@ -139,6 +148,7 @@ fn takes(
     let b_numbers = room::numbers(record, b);
     lends(
         record,
+        log,
         cut,
         lent_at,
         &c_numbers[0..c_length],
@@ -160,6 +170,7 @@ fn first_again(v: Vector, k: usize) -> usize {
 // Lends buffers, all of whose places hold one number before.
 fn lends(
     record: &[u8],
+    log: &[u8],
     cut: Cut,
     lent_at: usize,
     c: &[f64],
@@ -179,11 +190,17 @@ fn lends(
     if cone_length > room::CONE_ROOM {
         return false;
     }
+    let log_length = logs::places(log);
+    if log_length > room::LOG_ROOM {
+        return false;
+    }
     let before = record::number(record, std::num::wrapping_add_usize(lent_at, 2));
     let mut work = [before; room::WORK_ROOM];
     let mut cone_work = [before; room::CONE_ROOM];
+    let mut lent_log = [logs::before(log); room::LOG_ROOM];
     agrees(
         record,
+        log,
         cut,
         std::num::wrapping_add_usize(lent_at, 3),
         patterns::pattern_of(before),
@@ -194,6 +211,7 @@ fn lends(
         words,
         &mut work[0..work_length],
         &mut cone_work[0..cone_length],
+        &mut lent_log[0..log_length],
     )
 }
 
@@ -278,9 +296,78 @@ fn run<'a>(
     }
 }
 
-// Runs the problem, and compares what is answered and left with what the record holds from a place on.
+// The same with a progress record.
+fn run_logged<'a>(
+    record: &[u8],
+    period: u32,
+    cut: Cut,
+    c: &[f64],
+    a1: &'a [f64],
+    a2: &'a [f64],
+    b: &[f64],
+    words: &[u16],
+    work: &mut [f64],
+    cone_work: &mut [f64],
+    log: &mut [f64],
+) -> Logged {
+    let par = SolverParam::with_log_period(parameters(record), period);
+    let rows = Rows(record::size(record, 7));
+    let cols = Cols(record::size(record, 6));
+    match cut {
+        Cut::Whole => {
+            solver::solve_logged(
+                par,
+                rows,
+                cols,
+                storage(record),
+                c,
+                a1,
+                b,
+                words,
+                work,
+                cone_work,
+                log,
+            )
+        }
+        Cut::After(first) => {
+            solver::solve_split_logged(
+                par,
+                rows,
+                cols,
+                Cols(first),
+                c,
+                a1,
+                a2,
+                b,
+                words,
+                work,
+                cone_work,
+                log,
+            )
+        }
+        Cut::Twice => {
+            solver::solve_split_logged(
+                par,
+                rows,
+                cols,
+                Cols(cols.0 / 2),
+                c,
+                a1,
+                a1,
+                b,
+                words,
+                work,
+                cone_work,
+                log,
+            )
+        }
+    }
+}
+
+// Runs the problem, with a log where there is one, and compares what is answered and left with what the record holds from a place on.
 fn agrees<'a>(
     record: &[u8],
+    log: &[u8],
     cut: Cut,
     answer_at: usize,
     before: u64,
@@ -291,10 +378,42 @@ fn agrees<'a>(
     words: &[u16],
     work: &mut [f64],
     cone_work: &mut [f64],
+    lent_log: &mut [f64],
+) -> bool {
+    if log.len() == 0 {
+        let answer = run(record, cut, c, a1, a2, b, words, work, cone_work);
+        return is_answered(record, answer_at, before, answer, work, cone_work);
+    }
+    let logged = run_logged(
+        record,
+        logs::period(log),
+        cut,
+        c,
+        a1,
+        a2,
+        b,
+        words,
+        work,
+        cone_work,
+        lent_log,
+    );
+    if !replay_answers::is_logged(log, logged.written, logged.dropped, lent_log) {
+        return false;
+    }
+    is_answered(record, answer_at, before, logged.answer, work, cone_work)
+}
+
+// Whether this is what the record holds from a place on.
+fn is_answered(
+    record: &[u8],
+    answer_at: usize,
+    before: u64,
+    answer: Answer,
+    work: &[f64],
+    cone_work: &[f64],
 ) -> bool {
     let rows = Rows(record::size(record, 7));
     let cols = Cols(record::size(record, 6));
-    let answer = run(record, cut, c, a1, a2, b, words, work, cone_work);
     let ending = answer.ending;
     if !replay_answers::is_told(record, answer_at, ending, answer.steps, answer.rotations) {
         return false;

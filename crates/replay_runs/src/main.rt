@@ -4,9 +4,9 @@
 // held to the same record. A matrix of which half stands in the record is run by solver::solve_split alone, with
 // that half for both. Then come the runs worked by hand.
 mod cases;
-mod cuts;
 
 use libc::STDOUT_FILENO;
+use replay_problems::cuts;
 use replay_problems::room::A_ROOM;
 use replay_problems::room::WORK_ROOM;
 use replay_problems::runs;
@@ -163,40 +163,13 @@ fn numbers_of_a() -> [f64; A_ROOM] {
 
 // Writes the name of what is counted, if there is one of this number.
 fn write_name(number: usize) -> bool {
-    if number <= 6 {
-        return write_refusal(number);
-    }
     if number <= 12 {
-        return write_ending(number);
+        return lines::write_answer(number);
     }
     if number < CUT {
         return write_difference(number);
     }
-    cuts::write_name(number - CUT)
-}
-
-fn write_refusal(number: usize) -> bool {
-    match number {
-        1 => io::write_all(STDOUT_FILENO, b"BadParam"),
-        2 => io::write_all(STDOUT_FILENO, b"TooLarge"),
-        3 => io::write_all(STDOUT_FILENO, b"InvalidOp"),
-        4 => io::write_all(STDOUT_FILENO, b"BadCone"),
-        5 => io::write_all(STDOUT_FILENO, b"NotFinite"),
-        6 => io::write_all(STDOUT_FILENO, b"WorkShortage"),
-        _ => false,
-    }
-}
-
-fn write_ending(number: usize) -> bool {
-    match number {
-        7 => io::write_all(STDOUT_FILENO, b"Converged"),
-        8 => io::write_all(STDOUT_FILENO, b"ExcessIter, scaled"),
-        9 => io::write_all(STDOUT_FILENO, b"ExcessIter, unscaled"),
-        10 => io::write_all(STDOUT_FILENO, b"Unbounded"),
-        11 => io::write_all(STDOUT_FILENO, b"Infeasible"),
-        12 => io::write_all(STDOUT_FILENO, b"ConeFailure"),
-        _ => false,
-    }
+    write_cut(number - CUT)
 }
 
 fn write_difference(number: usize) -> bool {
@@ -227,6 +200,18 @@ fn write_difference(number: usize) -> bool {
                 b"apart from these, a larger or smaller of -0 and +0 otherwise",
             )
         }
+        _ => false,
+    }
+}
+
+// Writes the name of a way to cut a matrix, if there is one of this number.
+fn write_cut(way: usize) -> bool {
+    match way {
+        0 => io::write_all(STDOUT_FILENO, b"cut before the first column"),
+        1 => io::write_all(STDOUT_FILENO, b"cut after the first column"),
+        2 => io::write_all(STDOUT_FILENO, b"cut in the middle"),
+        3 => io::write_all(STDOUT_FILENO, b"cut before the last column"),
+        4 => io::write_all(STDOUT_FILENO, b"cut after the last column"),
         _ => false,
     }
 }

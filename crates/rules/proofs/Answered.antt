@@ -192,7 +192,7 @@ left-cone-is : (p : Problem) (work cone : List Float) (e : Ended) → leftBy p w
 unfolding leftBy
 left-cone-is p work cone e = refl
 
-left-answer-is : (p : Problem) (work cone : List Float) (e : Ended) → leftBy p work cone e .answer ≡ record { ending = e .ending; steps = e .steps; rotations = e .rotations }
+pub left-answer-is : (p : Problem) (work cone : List Float) (e : Ended) → leftBy p work cone e .answer ≡ record { ending = e .ending; steps = e .steps; rotations = e .rotations }
 unfolding leftBy
 left-answer-is p work cone e = refl
 

@@ -1,5 +1,5 @@
 -- The owner's demands hold of the rules: each statement of `specs/Demands.antt`, with its proof's place.
-use Prim.Native.Nat.{ℕ, _+_, _≤_}
+use Prim.Native.Nat.{ℕ, _+_, _-_, _/_, _≤_}
 use native.Mathlib.Omega.{arith}
 use mathlib.Core.Path.{_≡_, refl}
 use mathlib.Core.Logic.{_↔_}
@@ -8,6 +8,8 @@ use mathlib.Core.List.{List}
 use lib.Ieee.{Float}
 use lib.ListN.{length}
 use Rattle.rules.specs.declared.Answer.{Answer}
+use Rattle.rules.specs.declared.Ending.{Ending}
+use Rattle.rules.specs.declared.Logged.{Logged}
 use Rattle.rules.specs.Product.{Failure}
 use Rattle.rules.specs.Limits.{limit, mostDeep}
 use Rattle.rules.specs.Blocks.{readWord, isBadCone}
@@ -17,12 +19,13 @@ use Rattle.rules.specs.Problem.{Problem, withWords, workLength}
 use Rattle.rules.specs.Step.{State}
 use Rattle.rules.specs.declared.Norms.{Norms}
 use Rattle.rules.specs.declared.Criteria.{Criteria}
-use Rattle.rules.specs.Run.{pieceFrom, takenUp, Ended, run, leftBy}
-use Rattle.rules.specs.declared.Refusal.the-variants.{Accepted}
+use Rattle.rules.specs.Run.{stateFrom, pieceFrom, takenUp, Ended, run, leftBy}
+use Rattle.rules.specs.declared.Refusal.the-variants.{Accepted, Refused}
 use Rattle.rules.specs.declared.Word.the-variants.{Bad}
-use Rattle.rules.specs.Refusals.{Fact, facts, tooLarge, badCone, refusal, readProblem, plainProblem, numberOf, solved, SolveOutcome}
+use Rattle.rules.specs.Refusals.{Fact, facts, tooLarge, badCone, refusal, readProblem, plainProblem, numberOf, turnedAway, solved, SolveOutcome}
 use Rattle.rules.specs.Split.{SplitProblem, slicesFit, joinedProblem, plainSplit, splitFacts, splitRefusal, splitSolved, SplitOutcome}
-use Rattle.rules.specs.Demands.{NoneHolds, NumberedFrom, GivenExactly, TurnedAwayExactly, SplitTurnedAwayExactly, AsJoinedOrInvalid, GoesByTheRules, EndsFirst, GoesOnExactly, ConvergedExactly, RotationsBounded, AnsweredByTheRules, OldContentsChangeNothing, SplitOldContentsChangeNothing, PlacesBeyondKept, SplitPlacesBeyondKept}
+use Rattle.rules.specs.Progress.{isDue, untouched, withLog, LoggedLeft, loggedSolved, splitLoggedSolved, LoggedAs, LoggedOutcome, SplitLoggedOutcome, Log, logFrom}
+use Rattle.rules.specs.Demands.{NoneHolds, NumberedFrom, GivenExactly, TurnedAwayExactly, SplitTurnedAwayExactly, AsJoinedOrInvalid, GoesByTheRules, EndsFirst, GoesOnExactly, ConvergedExactly, RotationsBounded, AnsweredByTheRules, OldContentsChangeNothing, SplitOldContentsChangeNothing, PlacesBeyondKept, SplitPlacesBeyondKept, withPeriod, withSplitPeriod, SameButForTheLog, DueStep, dueUpTo, RecordedByTheRules, OldContentsOfThree, SplitOldContentsOfThree}
 use Rattle.rules.proofs.Refusals as Refusals
 use Rattle.rules.proofs.Run as Run
 use Rattle.rules.proofs.Converged as Converged
@@ -35,6 +38,11 @@ use Rattle.rules.proofs.Enough as Enough
 use Rattle.rules.proofs.Groups as Groups
 use Rattle.rules.proofs.Unreadable as Unreadable
 use Rattle.rules.proofs.GroupedRuns as GroupedRuns
+use Rattle.rules.proofs.Due as Due
+use Rattle.rules.proofs.LoggedRuns as LoggedRuns
+use Rattle.rules.proofs.RecordedOnce as RecordedOnce
+use Rattle.rules.proofs.Progress as Progress
+use Rattle.rules.proofs.AnyPeriod as AnyPeriod
 
 -- ---- demand 1
 
@@ -196,3 +204,88 @@ group-is-no-block = Groups.group-is-no-block
 
 pub group-is-bad-cone : (words : List ℕ) (m : ℕ) → hasGroup words ≡ true → isBadCone words m ≡ true
 group-is-bad-cone = Groups.group-is-bad-cone
+
+-- ---- request (x): a progress record
+
+-- "At steps 1, 1 + period, 1 + 2·period and so on", and "0 means none"
+pub due-exactly : (period k : ℕ) → (isDue period k ≡ true) ↔ DueStep period k
+due-exactly = Due.due-exactly
+
+-- how many of the first k steps these are: k over the period, rounded up, and none without a period
+pub due-steps : (period k : ℕ) → 1 ≤ period → dueUpTo period k ≡ (k + period - 1) / period
+due-steps = Due.due-steps
+
+pub no-period-no-steps : (k : ℕ) → dueUpTo 0 k ≡ 0
+no-period-no-steps = Due.no-period-no-steps
+
+-- "a third buffer of f64 is lent": but for the record and its counts, what may be answered and left is what `solve` may answer and leave, so that demands 1 to 3
+-- carry over
+pub logged-outcome-is-the-plain : (p : Problem) (work cone log : List Float) (answer : Logged) (work' cone' log' : List Float) → LoggedOutcome p work cone log answer work' cone' log' → SolveOutcome p work cone (answer .answer) work' cone'
+logged-outcome-is-the-plain = LoggedRuns.logged-outcome-is-the-plain
+
+pub split-logged-outcome-is-the-plain : (p : SplitProblem) (work cone log : List Float) (answer : Logged) (work' cone' log' : List Float) → SplitLoggedOutcome p work cone log answer work' cone' log' → SplitOutcome p work cone (answer .answer) work' cone'
+split-logged-outcome-is-the-plain = LoggedRuns.split-logged-outcome-is-the-plain
+
+-- "a refusal writes none and answers 0 for both counts"
+pub refused-records-nothing : (p : Problem) (work cone log : List Float) (e : Ending) → refusal p (length work) (length cone) ≡ Refused e → loggedSolved p work cone log ≡ withLog (turnedAway e work cone) (untouched log)
+refused-records-nothing = LoggedRuns.refused-records-nothing
+
+pub split-refused-records-nothing : (p : SplitProblem) (work cone log : List Float) (e : Ending) → splitRefusal p (length work) (length cone) ≡ Refused e → splitLoggedSolved p work cone log ≡ withLog (turnedAway e work cone) (untouched log)
+split-refused-records-nothing = LoggedRuns.split-refused-records-nothing
+
+-- where the slices have their lengths, all of it is that of the joined matrix, the record too
+pub split-logged-as-joined : (p : SplitProblem) (work cone log : List Float) → slicesFit p ≡ true → splitLoggedSolved p work cone log ≡ loggedSolved (joinedProblem p) work cone log
+split-logged-as-joined = LoggedRuns.split-logged-as-joined
+
+-- "At steps 1, 1 + period, 1 + 2·period and so on up to k, a row is written: tau, then the three convergence criteria, or the two others and +0. A step with
+-- ConeFailure writes no row and drops none. Rows stand one after another from the buffer's first place, four places each. Rows that don't fit whole are dropped; the
+-- answer gains rows written and rows dropped. Every place not in a written row keeps its contents": where no fact of the table holds
+pub recorded-by-the-rules : (p : Problem) (work cone log : List Float) (answer : Logged) (work' cone' log' : List Float) → LoggedOutcome p work cone log answer work' cone' log' → NoneHolds (facts p (length work) (length cone)) → RecordedByTheRules (readProblem p) log answer log'
+recorded-by-the-rules = LoggedRuns.recorded-by-the-rules
+
+pub split-recorded-by-the-rules : (p : SplitProblem) (work cone log : List Float) (answer : Logged) (work' cone' log' : List Float) → SplitLoggedOutcome p work cone log answer work' cone' log' → NoneHolds (splitFacts p (length work) (length cone)) → RecordedByTheRules (readProblem (joinedProblem p)) log answer log'
+split-recorded-by-the-rules = LoggedRuns.split-recorded-by-the-rules
+
+-- the problem as it is read has the period that was handed over
+pub period-as-handed : (p : Problem) → readProblem p .par .«log_period» ≡ p .par .«log_period»
+period-as-handed = LoggedRuns.period-as-handed
+
+-- no other record is allowed by that
+pub recorded-once : {p : Problem} {log : List Float} {a b : Logged} {l m : List Float} → RecordedByTheRules p log a l → RecordedByTheRules p log b m → a .answer ≡ b .answer → (a .written ≡ b .written) × (a .dropped ≡ b .dropped) × (l ≡ m)
+recorded-once r t same = RecordedOnce.recorded-once r t same
+
+-- from any state, and however steps are cut: their rows come to the whole's
+pub logs-join : (p : Problem) (ns : Norms) (s : State) (k : ℕ) (log : Log) (a b : ℕ) → logFrom p ns k s log (a + b) ≡ logFrom p ns (k + a) (stateFrom p ns s a) (logFrom p ns k s log a) b
+logs-join = Progress.logs-join
+
+-- refused or not, no place comes or goes
+pub log-as-long : (p : Problem) (work cone log : List Float) → length (loggedSolved p work cone log .log) ≡ length log
+log-as-long = LoggedRuns.log-as-long
+
+pub split-log-as-long : (p : SplitProblem) (work cone log : List Float) → length (splitLoggedSolved p work cone log .log) ≡ length log
+split-log-as-long = LoggedRuns.split-log-as-long
+
+-- "Neither the period nor this buffer's contents or length may alter verdict, k, q, work or cone work"
+pub neither-period-nor-log-alters : (p : Problem) (period period' : ℕ) (work cone log log' : List Float) → SameButForTheLog (loggedSolved (withPeriod period p) work cone log) (loggedSolved (withPeriod period' p) work cone log')
+neither-period-nor-log-alters = AnyPeriod.neither-period-nor-log-alters
+
+pub split-neither-period-nor-log-alters : (p : SplitProblem) (period period' : ℕ) (work cone log log' : List Float) → SameButForTheLog (splitLoggedSolved (withSplitPeriod period p) work cone log) (splitLoggedSolved (withSplitPeriod period' p) work cone log')
+split-neither-period-nor-log-alters = AnyPeriod.split-neither-period-nor-log-alters
+
+-- the same of the run without a record
+pub any-period : (p : Problem) (period : ℕ) (work cone : List Float) → solved (withPeriod period p) work cone ≡ solved p work cone
+any-period = AnyPeriod.any-period
+
+pub any-split-period : (p : SplitProblem) (period : ℕ) (work cone : List Float) → splitSolved (withSplitPeriod period p) work cone ≡ splitSolved p work cone
+any-split-period = AnyPeriod.any-split-period
+
+-- "the old-contents law now covers three buffers"
+pub old-contents-of-three : (p : Problem) (work cone log work' cone' log' : List Float) → refusal p (length work) (length cone) ≡ Accepted → refusal p (length work') (length cone') ≡ Accepted → OldContentsOfThree p work cone log work' cone' log'
+old-contents-of-three = LoggedRuns.old-contents-of-three
+
+pub split-old-contents-of-three : (p : SplitProblem) (work cone log work' cone' log' : List Float) → splitRefusal p (length work) (length cone) ≡ Accepted → splitRefusal p (length work') (length cone') ≡ Accepted → SplitOldContentsOfThree p work cone log work' cone' log'
+split-old-contents-of-three = LoggedRuns.split-old-contents-of-three
+
+-- "That any pair of outcomes allowed by it coincide is itself proved": of one A and of one in two slices
+pub any-two-logged-outcomes-coincide : {left : LoggedLeft} {a a' : Logged} {w w' c c' l l' : List Float} → LoggedAs left a w c l → LoggedAs left a' w' c' l' → (a ≡ a') × (w ≡ w') × (c ≡ c') × (l ≡ l')
+any-two-logged-outcomes-coincide s t = LoggedRuns.any-two-logged-outcomes-coincide s t

@@ -9,6 +9,8 @@ pub mod Triangle
 pub mod Columns
 pub mod Jacobi
 pub mod Run
+pub mod Progress
+pub mod Due
 pub mod Converged
 pub mod Refusals
 pub mod Rotations
@@ -18,6 +20,10 @@ pub mod Accepted
 pub mod OldContents
 pub mod Answered
 pub mod SplitRuns
+pub mod Recorded
+pub mod LoggedRuns
+pub mod RecordedOnce
+pub mod AnyPeriod
 pub mod Groups
 pub mod Unreadable
 pub mod GroupedRuns

@@ -113,7 +113,7 @@ left-kept p work cone e s hw hc =
       cone-beyond = drop-at (requiredCone p e) (drop needed cone) needed (requiredCone-length p e s);
     }
 
-solved-refused : (p : Problem) (work cone : List Float) (x : Ending) → refusal p (length work) (length cone) ≡ Refused x → solved p work cone ≡ turnedAway x work cone
+pub solved-refused : (p : Problem) (work cone : List Float) (x : Ending) → refusal p (length work) (length cone) ≡ Refused x → solved p work cone ≡ turnedAway x work cone
 unfolding solved
 solved-refused p work cone x e = rw e
 

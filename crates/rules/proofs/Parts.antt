@@ -2,14 +2,15 @@
 use Prim.Native.Nat.{ℕ, zero, suc, _+_, _-_, _≤_}
 use native.Mathlib.Nat.{add-sub-cancel-left}
 use native.Mathlib.Omega.{arith}
-use mathlib.Core.Path.{_≡_, refl, ap, _∙_}
+use mathlib.Core.Path.{_≡_, refl, sym, ap, _∙_}
 use mathlib.Core.List.{List, _∷_, _++_, append-assoc, append-nil}
 use lib.Ieee.{Float}
-use lib.ListN.{length, take, drop, replicate, length-append, length-drop, drop-of-length-le}
+use lib.ListN.{length, take, drop, replicate, length-append, length-drop, take-append-drop, drop-of-length-le}
 use lib.Seq.{take-at, drop-at, drop-drop, length-take-le}
 use borrow.Rule.Slice.PartMut.{drop-put}
 use Rattle.rules.specs.Arithmetic.{+0}
 use Rattle.rules.specs.Step.{part}
+use Rattle.rules.proofs.Slices.{part-in-first}
 
 -- what a list is after the part from place a to place e was lent and came back as ys
 abbrev pub put : ℕ → ℕ → List Float → List Float → List Float
@@ -58,6 +59,12 @@ module _ (a e : ℕ) (w ys : List Float) (fits : a ≤ e) (inside : e ≤ length
   part-after b k h =
       let end : drop e (put a e w ys) ≡ drop e w = drop-put a e w ys fits inside as-many in
       rw (← drop-rest e b (put a e w ys) h, end, drop-rest e b w h)
+
+  pub part-before : (b k : ℕ) → b + k ≤ a → part b k (put a e w ys) ≡ part b k w
+  part-before b k h =
+      let within : b + k ≤ length (take a w) = rw front-length h in
+      part-in-first (take a w) (ys ++ drop (e - a) (drop a w)) b k within
+      ∙ sym (rw (take-append-drop a w) at (part-in-first (take a w) (drop a w) b k within))
 
 -- ---- parts from the front, one after another
 

@@ -37,7 +37,7 @@ same-fact p h = rw (h, eq-eqb _ _ (joined-long p h)) (or-none (not (eqb (length 
     or-none true = refl
     or-none false = refl
 
-same-facts : (p : SplitProblem) (work cone : ℕ) → slicesFit p ≡ true → splitFacts p work cone ≡ facts (joinedProblem p) work cone
+pub same-facts : (p : SplitProblem) (work cone : ℕ) → slicesFit p ≡ true → splitFacts p work cone ≡ facts (joinedProblem p) work cone
 same-facts p work cone h = rw (same-fact p h)
 
 split-refusal-is : (p : SplitProblem) (work cone : ℕ) → splitRefusal p work cone ≡ asRefusal (firstOf (splitFacts p work cone))
@@ -108,7 +108,7 @@ module _ (p : SplitProblem) (work cone : List Float) where
   split-numbered : NumberedFrom numberOf 1 (splitFacts p (length work) (length cone))
   split-numbered = (refl, (refl, (refl, (refl, (refl, (refl, tt))))))
 
-  split-solved-is : splitSolved p work cone ≡ leftAfter (asRefusal (firstOf (splitFacts p (length work) (length cone)))) (leftBy (readProblem (joinedProblem p)) work cone (run (readProblem (joinedProblem p)))) work cone
+  pub split-solved-is : splitSolved p work cone ≡ leftAfter (asRefusal (firstOf (splitFacts p (length work) (length cone)))) (leftBy (readProblem (joinedProblem p)) work cone (run (readProblem (joinedProblem p)))) work cone
   unfolding splitSolved
   split-solved-is = rw (split-refusal-is p (length work) (length cone))
 

@@ -11,8 +11,10 @@ use Rattle.rules.specs.Matrices.{opped, transOpped, absaddedCols, absadd
 use Rattle.rules.specs.Projections.{projSOC}
 use Rattle.rules.specs.Prepare.{frNorm}
 use Rattle.rules.specs.Refusals.{tooLarge, solved}
+use Rattle.rules.specs.Progress.{isDue, logRow, logStep, loggedSolved}
+use Rattle.rules.specs.Demands.{dueUpTo}
 use Rattle.rules.specs.WorkedByHand.{AllHold, table}
 
 pub worked-by-hand : AllHold table
-unfolding ofBits ofInt neg larger smaller root opped transOpped absaddedCols absaddedRows projSOC tooLarge solved defaults readWord plainWords norm frNorm
-worked-by-hand = (refl, (refl, (refl, (refl, (refl, (refl, (refl, (refl, (refl, (refl, (refl, (refl, (refl, (refl, (refl, (refl, (refl, (refl, (refl, (refl, (refl, (refl, (refl, (refl, (refl, (refl, (refl, (refl, (refl, (refl, (refl, (refl, (refl, (refl, (refl, (refl, (refl, (refl, (refl, (refl, (refl, (refl, (refl, (refl, (refl, (refl, (refl, tt)))))))))))))))))))))))))))))))))))))))))))))))
+unfolding ofBits ofInt neg larger smaller root opped transOpped absaddedCols absaddedRows projSOC tooLarge solved defaults readWord plainWords norm frNorm isDue dueUpTo logRow logStep loggedSolved
+worked-by-hand = (refl, (refl, (refl, (refl, (refl, (refl, (refl, (refl, (refl, (refl, (refl, (refl, (refl, (refl, (refl, (refl, (refl, (refl, (refl, (refl, (refl, (refl, (refl, (refl, (refl, (refl, (refl, (refl, (refl, (refl, (refl, (refl, (refl, (refl, (refl, (refl, (refl, (refl, (refl, (refl, (refl, (refl, (refl, (refl, (refl, (refl, (refl, (refl, (refl, (refl, (refl, (refl, (refl, (refl, (refl, (refl, (refl, (refl, (refl, (refl, (refl, (refl, (refl, (refl, (refl, tt)))))))))))))))))))))))))))))))))))))))))))))))))))))))))))))))))

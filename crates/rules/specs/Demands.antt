@@ -1,8 +1,8 @@
 -- The owner's demands, in words over the rules. `proofs/Demands.antt` proves them.
-use Prim.Native.Nat.{ℕ, zero, suc, _+_, _-_, _*_, _≤_, _<_, max}
+use Prim.Native.Nat.{ℕ, zero, suc, _+_, _-_, _*_, _/_, _≤_, _<_, max, min}
 use mathlib.Core.Path.{_≡_}
 use mathlib.Core.Logic.{_↔_, _⊎_}
-use mathlib.Core.Bool.{Bool, true, false, _&&_, _||_}
+use mathlib.Core.Bool.{Bool, true, false, cond, _&&_, _||_}
 use mathlib.Core.List.{List, [], _∷_}
 use lib.Ieee.{Float, lt, le}
 use lib.ListN.{length, take, drop}
@@ -10,10 +10,12 @@ use Rattle.rules.specs.declared.Cone.{Cone}
 use Rattle.rules.specs.declared.Cone.the-variants.{Zero, RPos, SOC, RotSOC, PSD}
 use Rattle.rules.specs.declared.Answer.{Answer}
 use Rattle.rules.specs.declared.Ending.{Ending}
+use Rattle.rules.specs.declared.Logged.{Logged}
 use Rattle.rules.specs.declared.Ending.the-variants.{Converged, InvalidOp}
 use Rattle.rules.specs.Product.{Failure, none, block, coneWork}
-use Rattle.rules.specs.Problem.{Problem, embed, blocks, workLength}
-use Rattle.rules.specs.Step.{State, xX, xY}
+use Rattle.rules.specs.Parameters.{withLogPeriod}
+use Rattle.rules.specs.Problem.{Problem, problemOf, embed, blocks, workLength}
+use Rattle.rules.specs.Step.{State, part, xX, xY}
 use Rattle.rules.specs.declared.Criteria.{Criteria}
 use Rattle.rules.specs.declared.Criteria.the-variants.{Conv, Inf}
 use Rattle.rules.specs.Criteria.{tauOf}
@@ -26,7 +28,8 @@ use Rattle.rules.specs.Outcome.{Solution, times-1/tau, unscaled, all-zer
 use Rattle.rules.specs.Helpers.{reciprocal}
 use Rattle.rules.specs.Vectors.{scaled}
 use Rattle.rules.specs.Refusals.{Fact, _when_, First, none-applies, applies, firstOf, facts, numberOf, readProblem, solved, turnedAway}
-use Rattle.rules.specs.Split.{SplitProblem, slicesFit, joinedProblem, splitFacts, splitSolved}
+use Rattle.rules.specs.Split.{SplitProblem, splitOf, slicesFit, joinedProblem, splitFacts, splitSolved}
+use Rattle.rules.specs.Progress.{isDue, rowOf, LoggedLeft, loggedSolved, splitLoggedSolved}
 
 -- ---- demand 1
 
@@ -258,3 +261,68 @@ PlacesBeyondKept p work cone = KeptBeyond (workNeeded p) (coneNeeded p) work con
 abbrev pub SplitPlacesBeyondKept : SplitProblem → List Float → List Float → Type 0
 SplitPlacesBeyondKept p work cone =
     KeptBeyond (workNeeded (joinedProblem p)) (coneNeeded (joinedProblem p)) work cone (splitSolved p work cone)
+
+-- ---- request (x): a progress record
+
+-- the same problem with another log_period
+abbrev pub withPeriod : ℕ → Problem → Problem
+withPeriod period p =
+    problemOf (p .m) (p .n) (p .storage) (p .c) (p .a) (p .b) (p .words) (withLogPeriod (p .par) period)
+
+abbrev pub withSplitPeriod : ℕ → SplitProblem → SplitProblem
+withSplitPeriod period p =
+    splitOf (p .m) (p .n) (p .n1) (p .c) (p .factory) (p .lesson) (p .b) (p .words) (withLogPeriod (p .par) period)
+
+-- "Neither the period nor this buffer's contents or length may alter verdict, k, q, work or cone work": of what two runs leave
+pub record SameButForTheLog (one other : LoggedLeft) : Type 0 where
+  pub answer : one .answer .answer ≡ other .answer .answer
+  pub work : one .work ≡ other .work
+  pub cone : one .cone ≡ other .cone
+
+-- "At steps 1, 1 + period, 1 + 2·period and so on", and "0 means none": k is one of these
+pub record DueStep (period k : ℕ) : Type 0 where
+  pub some : 1 ≤ period
+  pub before : ℕ
+  pub is : k ≡ 1 + before * period
+
+-- how many of the first k steps are due
+unfoldable pub dueUpTo : ℕ → ℕ → ℕ
+dueUpTo period zero = 0
+dueUpTo period (suc k) = dueUpTo period k + cond (isDue period (suc k)) 1 0
+
+-- the steps of a run that were completed: "A step with ConeFailure writes no row and drops none."
+abbrev pub completed : Answer → ℕ
+completed answer = cond (isConeFailure (answer .ending)) (answer .steps - 1) (answer .steps)
+
+-- the row of step k of the whole run
+abbrev pub rowAt : Problem → ℕ → List Float
+rowAt p k = rowOf (tauAfter p k) (step p k .criteria)
+
+-- Of the problem as it is read: the record of a run, in a buffer that held other numbers before.
+pub record RecordedByTheRules (p : Problem) (log : List Float) (answer : Logged) (log' : List Float) : Type 0 where
+  -- "At steps 1, 1 + period, 1 + 2·period and so on up to k, a row is written .. Rows stand one after another from the buffer's first place, four places each."
+  pub rows : (j : ℕ) → j < answer .written → part (4 * j) 4 log' ≡ rowAt p (1 + j * p .par .«log_period»)
+  pub up-to-k : (j : ℕ) → j < answer .written → 1 + j * p .par .«log_period» ≤ completed (answer .answer)
+  -- "Rows that don't fit whole are dropped; the answer gains rows written and rows dropped.": written plus dropped is the number of due steps
+  pub as-many-as-fit : answer .written ≡ min (length log / 4) (dueUpTo (p .par .«log_period») (completed (answer .answer)))
+  pub all-counted : answer .written + answer .dropped ≡ dueUpTo (p .par .«log_period») (completed (answer .answer))
+  -- "Every place not in a written row keeps its contents"
+  pub as-long : length log' ≡ length log
+  pub others-kept : drop (4 * answer .written) log' ≡ drop (4 * answer .written) log
+
+-- "the old-contents law now covers three buffers": of what two runs leave whose buffers held other numbers, or were longer
+pub record SameOverThree (required needed : ℕ) (log log' : List Float) (one other : LoggedLeft) : Type 0 where
+  pub answer : one .answer .answer ≡ other .answer .answer
+  pub work-required : take required (one .work) ≡ take required (other .work)
+  pub cone-required : take needed (one .cone) ≡ take needed (other .cone)
+  pub rows-due : one .answer .written + one .answer .dropped ≡ other .answer .written + other .answer .dropped
+  pub rows-of-both : (j : ℕ) → j < one .answer .written → j < other .answer .written → part (4 * j) 4 (one .log) ≡ part (4 * j) 4 (other .log)
+  pub as-long-as-many : length log ≡ length log' → one .answer ≡ other .answer
+
+abbrev pub OldContentsOfThree : Problem → List Float → List Float → List Float → List Float → List Float → List Float → Type 0
+OldContentsOfThree p work cone log work' cone' log' =
+    SameOverThree (workNeeded p) (coneNeeded p) log log' (loggedSolved p work cone log) (loggedSolved p work' cone' log')
+
+abbrev pub SplitOldContentsOfThree : SplitProblem → List Float → List Float → List Float → List Float → List Float → List Float → Type 0
+SplitOldContentsOfThree p work cone log work' cone' log' =
+    SameOverThree (workNeeded (joinedProblem p)) (coneNeeded (joinedProblem p)) log log' (splitLoggedSolved p work cone log) (splitLoggedSolved p work' cone' log')

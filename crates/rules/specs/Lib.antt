@@ -20,5 +20,6 @@ pub mod Criteria
 pub mod Run
 pub mod Refusals
 pub mod Split
+pub mod Progress
 pub mod Demands
 pub mod WorkedByHand

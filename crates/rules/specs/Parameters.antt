@@ -9,19 +9,29 @@ use Rattle.rules.specs.declared.SolverParam.{SolverParam}
 abbrev pub oneOver : ℕ → Float
 oneOver n = round binary64 false 1 n
 
--- the parameters with these limits and tolerances, and the same but for eps_zero: the one place where parameters are made, and its use
-abbrev pub paramOf : ℕ → Float → Float → Float → ℕ → SolverParam
-paramOf maxIter epsAcc epsInf epsZero sweepLimit =
+-- all parameters, made in this one place; by request (x) of document 02 "Parameters gain log_period (any 32-bit number, 0 means none)"
+abbrev pub paramMade : ℕ → Float → Float → Float → ℕ → ℕ → SolverParam
+paramMade maxIter epsAcc epsInf epsZero sweepLimit logPeriod =
     record {
       «max_iter» = maxIter;
       «eps_acc» = epsAcc;
       «eps_inf» = epsInf;
       «eps_zero» = epsZero;
       «sweep_limit» = sweepLimit;
+      «log_period» = logPeriod;
     }
 
+-- those with these limits and tolerances and no progress record; and the same parameters but for eps_zero, or for log_period
+abbrev pub paramOf : ℕ → Float → Float → Float → ℕ → SolverParam
+paramOf maxIter epsAcc epsInf epsZero sweepLimit = paramMade maxIter epsAcc epsInf epsZero sweepLimit 0
+
 abbrev pub withEpsZero : SolverParam → Float → SolverParam
-withEpsZero par epsZero = paramOf (par .«max_iter») (par .«eps_acc») (par .«eps_inf») epsZero (par .«sweep_limit»)
+withEpsZero par epsZero =
+    paramMade (par .«max_iter») (par .«eps_acc») (par .«eps_inf») epsZero (par .«sweep_limit») (par .«log_period»)
+
+abbrev pub withLogPeriod : SolverParam → ℕ → SolverParam
+withLogPeriod par logPeriod =
+    paramMade (par .«max_iter») (par .«eps_acc») (par .«eps_inf») (par .«eps_zero») (par .«sweep_limit») logPeriod
 
 unfoldable pub defaults : ℕ → ℕ → SolverParam
 unfolding round

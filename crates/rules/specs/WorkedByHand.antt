@@ -1,4 +1,4 @@
--- Document 01, "Worked by hand": the cases marked P, as rows of one table, with the cone word that 01 names and requests (ii), (iv), (vii), (viii) and (ix) of document 02. `proofs/WorkedByHand.antt` proves the one claim that every row holds.
+-- Document 01, "Worked by hand": the cases marked P, as rows of one table, with the cone word that 01 names and requests (ii), (iv), (vii), (viii), (ix) and (x) of document 02. `proofs/WorkedByHand.antt` proves the one claim that every row holds.
 use Prim.Native.Nat.{ℕ, zero, suc, _+_}
 use mathlib.Core.Path.{_≡_}
 use mathlib.Core.List.{List, [], _∷_}
@@ -13,6 +13,8 @@ use Rattle.rules.specs.declared.SolverParam.{SolverParam}
 use Rattle.rules.specs.declared.Cone.the-variants.{SOC}
 use Rattle.rules.specs.declared.Word.the-variants.{Block}
 use Rattle.rules.specs.declared.Answer.{Answer}
+use Rattle.rules.specs.declared.Criteria.the-variants.{Conv, Inf}
+use Rattle.rules.specs.declared.Logged.{Logged}
 use Rattle.rules.specs.declared.Ending.{Ending}
 use Rattle.rules.specs.declared.Ending.the-variants.{Converged, ExcessIterUnscaled, BadParam, TooLarge, BadCone, WorkShortage}
 use Rattle.rules.specs.Arithmetic.{+0}
@@ -25,8 +27,12 @@ use Rattle.rules.specs.Groups.{plainWords}
 use Rattle.rules.specs.Parameters.{oneOver, paramOf, withEpsZero, defaults}
 use Rattle.rules.specs.Outcome.{turned-away, onPaper}
 use Rattle.rules.specs.Problem.{Problem}
-use Rattle.rules.specs.Prepare.{frNorm}
+use Rattle.rules.specs.Prepare.{frNorm, prepared}
+use Rattle.rules.specs.Product.{block}
 use Rattle.rules.specs.Refusals.{tooLarge, solved, turnedAway}
+use Rattle.rules.specs.Run.{WholeStep}
+use Rattle.rules.specs.Progress.{isDue, rowOf, Log, untouched, logRow, logStep, withLog, loggedSolved}
+use Rattle.rules.specs.Demands.{withPeriod, dueUpTo}
 use Rattle.rules.specs.Root.{root}
 
 -- A row says what a term of the rules comes to.
@@ -135,6 +141,17 @@ held k = replicate k (whole 5)
 abbrev answered : Ending → ℕ → ℕ → Answer
 answered e k q = record { ending = e; steps = k; rotations = q }
 
+-- the same with the rows of a progress record
+abbrev loggedAnswer : Answer → ℕ → ℕ → Logged
+loggedAnswer answer written dropped = record { answer = answer; written = written; dropped = dropped }
+
+-- 1, 2, 3, 4 as a row of a record, and a step at which a cone failed
+abbrev oneToFour : List Float
+oneToFour = rowOf (whole 1) (Conv (whole 2) (whole 3) (whole 4))
+
+abbrev failing : WholeStep
+failing = record { state = prepared byDefault; rotations = 0; failure = block 0; criteria = Conv +0 +0 +0 }
+
 abbrev pub table : List Row
 table =
     (root binary64 (whole 4) comes-to whole 2)
@@ -193,4 +210,24 @@ table =
     ∷ (frNorm (10^200 ∷ []) comes-to inf false)
     ∷ (solved unmet (held 22) [] .answer comes-to answered (Converged +0 +0 +0) 1 0)
     ∷ (take 1 (solved unmet (held 22) [] .work) comes-to (+0 ∷ []))
+    -- nor these, but request (x): steps 1, 4 and 7 are due with a period of 3, none with 0, and the first with the largest; what a row is; a second one that does not fit whole, and one
+    -- that does; a step at which a cone fails; and the empty problem's runs: with every step recorded in six places and in three, without one, with tau not above eps_zero, turned away, and of seven steps with a period of 3 in nine places
+    ∷ (dueUpTo 3 6 comes-to 2)
+    ∷ (dueUpTo 3 7 comes-to 3)
+    ∷ (isDue 3 3 comes-to false)
+    ∷ (dueUpTo 0 9 comes-to 0)
+    ∷ (dueUpTo 4_294_967_295 9 comes-to 1)
+    ∷ (rowOf (whole 1) (Inf (whole 2) (whole 3)) comes-to (whole 1 ∷ whole 2 ∷ whole 3 ∷ +0 ∷ []))
+    ∷ (logRow (held 4) (logRow oneToFour (untouched (held 7))) comes-to record { places = whole 1 ∷ whole 2 ∷ whole 3 ∷ whole 4 ∷ held 3; written = 1; dropped = 1 })
+    ∷ (logRow oneToFour (logRow (held 4) (untouched (held 9))) comes-to record { places = whole 5 ∷ whole 5 ∷ whole 5 ∷ whole 5 ∷ whole 1 ∷ whole 2 ∷ whole 3 ∷ whole 4 ∷ held 1; written = 2; dropped = 0 })
+    ∷ (logStep (withPeriod 1 byDefault) 1 failing (untouched (held 4)) comes-to untouched (held 4))
+    ∷ (loggedSolved (withPeriod 1 byDefault) (held 6) [] (held 6) .answer comes-to loggedAnswer (answered (Converged +0 +0 +0) 1 0) 1 0)
+    ∷ (loggedSolved (withPeriod 1 byDefault) (held 6) [] (held 6) .log comes-to (whole 1 ∷ +0 ∷ +0 ∷ +0 ∷ held 2))
+    ∷ (loggedSolved (withPeriod 1 byDefault) (held 6) [] (held 3) .answer comes-to loggedAnswer (answered (Converged +0 +0 +0) 1 0) 0 1)
+    ∷ (loggedSolved (withPeriod 1 byDefault) (held 6) [] (held 3) .log comes-to held 3)
+    ∷ (loggedSolved byDefault (held 6) [] (held 4) .answer comes-to loggedAnswer (answered (Converged +0 +0 +0) 1 0) 0 0)
+    ∷ (loggedSolved (withPeriod 1 (empty (epsZero0 (defaults 1 64)))) (held 6) [] (held 4) .log comes-to (+0 ∷ inf false ∷ inf false ∷ +0 ∷ []))
+    ∷ (loggedSolved (withPeriod 1 byDefault) (held 5) [] (held 4) comes-to withLog (turnedAway WorkShortage (held 5) []) (untouched (held 4)))
+    ∷ (loggedSolved (withPeriod 3 (empty (epsZero0 (defaults 7 64)))) (held 6) [] (held 9) .answer comes-to loggedAnswer (answered (ExcessIterUnscaled (inf false) (inf false)) 7 0) 2 1)
+    ∷ (loggedSolved (withPeriod 3 (empty (epsZero0 (defaults 7 64)))) (held 6) [] (held 9) .log comes-to (+0 ∷ inf false ∷ inf false ∷ +0 ∷ +0 ∷ inf false ∷ inf false ∷ +0 ∷ held 1))
     ∷ []

@@ -1,7 +1,7 @@
 // What is right. The rules stand in specs/, in document 01's order and words; this file declares
 // the types that the rules and the code share.
 ghost use mathlib.Core.Path.{_≡_};
-ghost use Rattle.rules.specs.Parameters.{paramOf, withEpsZero, defaults};
+ghost use Rattle.rules.specs.Parameters.{paramMade, paramOf, withEpsZero, withLogPeriod, defaults};
 
 // The most rows and the most columns of a matrix, which are the largest m and n.
 pub const LIMIT: usize = 1024;
@@ -69,6 +69,8 @@ pub struct SolverParam {
     pub eps_inf: f64,
     pub eps_zero: f64,
     pub sweep_limit: u64,
+    // Which steps a progress record has: 1, 1 + log_period, 1 + 2 * log_period and so on; 0 means none.
+    pub log_period: u32,
 }
 
 impl SolverParam {
@@ -91,7 +93,7 @@ impl SolverParam {
         )
     }
 
-    // The parameters with these limits and tolerances.
+    // The parameters with these limits and tolerances, and no progress record.
     pub fn of(
         max_iter: u64,
         eps_acc: f64,
@@ -101,20 +103,56 @@ impl SolverParam {
     ) -> SolverParam
         ensures { λ r. ⌜ r ≡ paramOf «max_iter» «eps_acc» «eps_inf» «eps_zero» «sweep_limit» ⌝ }
     {
-        SolverParam {
-            max_iter,
-            eps_acc,
-            eps_inf,
-            eps_zero,
-            sweep_limit,
-        }
+        SolverParam::made(max_iter, eps_acc, eps_inf, eps_zero, sweep_limit, 0)
     }
 
     // The same parameters but for eps_zero.
     pub fn with_eps_zero(par: SolverParam, eps: f64) -> SolverParam
         ensures { λ r. ⌜ r ≡ withEpsZero par eps ⌝ }
     {
-        SolverParam::of(par.max_iter, par.eps_acc, par.eps_inf, eps, par.sweep_limit)
+        SolverParam::made(
+            par.max_iter,
+            par.eps_acc,
+            par.eps_inf,
+            eps,
+            par.sweep_limit,
+            par.log_period,
+        )
+    }
+
+    // The same parameters but for log_period.
+    pub fn with_log_period(par: SolverParam, period: u32) -> SolverParam
+        ensures { λ r. ⌜ r ≡ withLogPeriod par period ⌝ }
+    {
+        SolverParam::made(
+            par.max_iter,
+            par.eps_acc,
+            par.eps_inf,
+            par.eps_zero,
+            par.sweep_limit,
+            period,
+        )
+    }
+
+    // All of them: the one place where parameters are made.
+    fn made(
+        max_iter: u64,
+        eps_acc: f64,
+        eps_inf: f64,
+        eps_zero: f64,
+        sweep_limit: u64,
+        log_period: u32,
+    ) -> SolverParam
+        ensures { λ r. ⌜ r ≡ paramMade «max_iter» «eps_acc» «eps_inf» «eps_zero» «sweep_limit» «log_period» ⌝ }
+    {
+        SolverParam {
+            max_iter,
+            eps_acc,
+            eps_inf,
+            eps_zero,
+            sweep_limit,
+            log_period,
+        }
     }
 }
 
@@ -185,4 +223,11 @@ pub struct Answer {
     pub ending: Ending,
     pub steps: u64,
     pub rotations: u64,
+}
+
+// What a run with a progress record answers: the same, and the rows written and dropped.
+pub struct Logged {
+    pub answer: Answer,
+    pub written: u64,
+    pub dropped: u64,
 }

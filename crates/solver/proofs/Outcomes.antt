@@ -9,7 +9,7 @@ use borrow.Author.Tests.{le-leb, eq-eqb}
 use lib.Ieee.{Float}
 use lib.ListN.{length, take, drop, replicate}
 use lib.Seq.{length-take-le}
-use Rattle.rules.specs.declared.Answer.{Answer}
+use Rattle.rules.specs.declared.Logged.{Logged}
 use Rattle.rules.specs.declared.Ending.{Ending}
 use Rattle.rules.specs.declared.Shape.{Shape}
 use Rattle.rules.specs.declared.Storage.{Storage}
@@ -26,25 +26,25 @@ use Rattle.rules.specs.Problem.{Problem, Slices, slices, asRead, blocks, matrix
 use Rattle.rules.specs.Run.{leftBy}
 use Rattle.rules.specs.declared.Refusal.{Refusal}
 use Rattle.rules.specs.declared.Refusal.the-variants.{Accepted, Refused}
-use Rattle.rules.specs.Refusals.{refusal, isPacked, readProblem, turnedAway, solved, SolveOutcome}
-use Rattle.rules.specs.Split.{SplitProblem, splitOf, slicesFit, joinedProblem, splitRefusal, splitSolved, SplitOutcome}
-use Rattle.rules.proofs.SplitRuns.{same-refusal, split-runs-as-joined, slices-fit-if-accepted}
+use Rattle.rules.specs.Refusals.{refusal, isPacked, readProblem}
+use Rattle.rules.specs.Split.{SplitProblem, splitOf, slicesFit, joinedProblem, splitRefusal}
+use Rattle.rules.specs.Progress.{LoggedLeft, LoggedAs, LoggedOutcome, SplitLoggedOutcome}
+use Rattle.rules.proofs.SplitRuns.{same-refusal, slices-fit-if-accepted}
+use Rattle.rules.proofs.LoggedRuns.{logged-accepted, refused-records-nothing, split-logged-as-joined, split-refused-records-nothing}
 use Rattle.rules.proofs.Refusals.{none-holds}
 use Rattle.rules.proofs.Accepted.{AllFits, sizes-fit, accepted-fits}
-use Rattle.rules.proofs.OldContents.{solved-accepted}
 use Rattle.rules.proofs.Parts.{put, from-start, zeros-part}
 use Rattle.shape.specs.Fitting.{partsIn, partsFit}
 use Rattle.shape.proofs.Fitting.{sized-of}
-use Rattle.solver.specs.Solve.{turnedAwayBy, Taken, Handed, LeftAs, Lent, AtZero, RanIn}
+use Rattle.solver.specs.Solve.{turnedAwayBy, Taken, Handed, leftLogged, Lent, AtZero, RanIn}
 
-solved-refused : (p : Problem) (work cone : List Float) (e : Ending) → refusal p (length work) (length cone) ≡ Refused e → solved p work cone ≡ turnedAway e work cone
-unfolding solved
-solved-refused p work cone e h = rw h
+-- what is left as this rule says, where it is that one
+left-by : {one other : LoggedLeft} {answer : Logged} {work cone log : List Float} → one ≡ other → LoggedAs other answer work cone log → LoggedAs one answer work cone log
+left-by e l = rw e l
 
-pub turned-away : (p : Problem) (work cone : List Float) (e : Ending) (r : Refusal) → r ≡ refusal p (length work) (length cone) → r ≡ Refused e → (answer : Answer) → answer ≡ turnedAwayBy e → SolveOutcome p work cone answer work cone
-turned-away p work cone e r h is answer told =
-    let s = solved-refused p work cone e (sym (rw is at h)) in
-    record { answered = rw s told; work-left = rw s; cone-left = rw s }
+pub turned-away : (p : Problem) (work cone log : List Float) (e : Ending) (r : Refusal) → r ≡ refusal p (length work) (length cone) → r ≡ Refused e → (answer : Logged) → answer ≡ turnedAwayBy e → LoggedOutcome p work cone log answer work cone log
+turned-away p work cone log e r h is answer told =
+    left-by (refused-records-nothing p work cone log e (sym (rw is at h))) (record { answered = told; work-left = refl; cone-left = refl; log-left = refl })
 
 -- ---- an accepted problem, as the run reads it
 
@@ -103,23 +103,15 @@ module _ (m n : ℕ) (storage : Storage) (c a b : List Float) (words : List ℕ)
         few-words = few-words (problemOf m n storage c a b words par) (length work) (length cone) accepted;
       }
 
-  pub went-through : (r : Refusal) → r ≡ refusal (problemOf m n storage c a b words par) (length work) (length cone) → r ≡ Accepted → (read : SolverParam) → read ≡ asRead par → (answer : Answer) (work' cone' : List Float) → LeftAs (problemIn whole-shape c (slices a []) b (plainWords words) read) work cone answer work' cone' → SolveOutcome (problemOf m n storage c a b words par) work cone answer work' cone'
-  went-through r h is read e answer work' cone' l =
-      let s = solved-accepted (problemOf m n storage c a b words par) work cone (sym (rw is at h)) in
-      let k = rw (append-nil a, e) at l in
-      let same = read-is m n storage c a b words par in
-      record { answered = rw (s, same) (k .answered); work-left = rw (s, same) (k .work-left); cone-left = rw (s, same) (k .cone-left) }
+  pub went-through : (r : Refusal) → r ≡ refusal (problemOf m n storage c a b words par) (length work) (length cone) → r ≡ Accepted → (read : SolverParam) → read ≡ asRead par → (log : List Float) (answer : Logged) (work' cone' log' : List Float) → LoggedAs (leftLogged (problemIn whole-shape c (slices a []) b (plainWords words) read) work cone log) answer work' cone' log' → LoggedOutcome (problemOf m n storage c a b words par) work cone log answer work' cone' log'
+  went-through r h is read e log answer work' cone' log' l =
+      left-by (logged-accepted (problemOf m n storage c a b words par) work cone log (sym (rw is at h))) (rw (read-is m n storage c a b words par) (rw (append-nil a, e) at l))
 
 -- ---- dense A in two slices
 
-split-refused : (p : SplitProblem) (work cone : List Float) (e : Ending) → splitRefusal p (length work) (length cone) ≡ Refused e → splitSolved p work cone ≡ turnedAway e work cone
-unfolding splitSolved
-split-refused p work cone e h = rw h
-
-pub split-turned-away : (p : SplitProblem) (work cone : List Float) (e : Ending) (r : Refusal) → r ≡ splitRefusal p (length work) (length cone) → r ≡ Refused e → (answer : Answer) → answer ≡ turnedAwayBy e → SplitOutcome p work cone answer work cone
-split-turned-away p work cone e r h is answer told =
-    let s = split-refused p work cone e (sym (rw is at h)) in
-    record { answered = rw s told; work-left = rw s; cone-left = rw s }
+pub split-turned-away : (p : SplitProblem) (work cone log : List Float) (e : Ending) (r : Refusal) → r ≡ splitRefusal p (length work) (length cone) → r ≡ Refused e → (answer : Logged) → answer ≡ turnedAwayBy e → SplitLoggedOutcome p work cone log answer work cone log
+split-turned-away p work cone log e r h is answer told =
+    left-by (split-refused-records-nothing p work cone log e (sym (rw is at h))) (record { answered = told; work-left = refl; cone-left = refl; log-left = refl })
 
 module _ (m n n1 : ℕ) (c factory lesson b : List Float) (words : List ℕ) (par : SolverParam) (work cone : List Float) where
   abbrev split-shape : Shape
@@ -144,12 +136,10 @@ module _ (m n n1 : ℕ) (c factory lesson b : List Float) (words : List ℕ) (pa
           few-words = few-words (joinedProblem p) (length work) (length cone) accepted-joined;
         }
 
-    pub split-went-through : (read : SolverParam) → read ≡ asRead par → (answer : Answer) (work' cone' : List Float) → LeftAs (problemIn split-shape c (slices factory lesson) b (plainWords words) read) work cone answer work' cone' → SplitOutcome p work cone answer work' cone'
-    split-went-through read e answer work' cone' l =
-        let s = split-runs-as-joined p work cone fitting ∙ solved-accepted (joinedProblem p) work cone accepted-joined in
-        let k = rw e at l in
-        let same = read-is m n Dense c (factory ++ lesson) b words par in
-        record { answered = rw (s, same) (k .answered); work-left = rw (s, same) (k .work-left); cone-left = rw (s, same) (k .cone-left) }
+    pub split-went-through : (read : SolverParam) → read ≡ asRead par → (log : List Float) (answer : Logged) (work' cone' log' : List Float) → LoggedAs (leftLogged (problemIn split-shape c (slices factory lesson) b (plainWords words) read) work cone log) answer work' cone' log' → SplitLoggedOutcome p work cone log answer work' cone' log'
+    split-went-through read e log answer work' cone' log' l =
+        left-by (split-logged-as-joined p work cone log fitting ∙ logged-accepted (joinedProblem p) work cone log accepted-joined)
+        (rw (read-is m n Dense c (factory ++ lesson) b words par) (rw e at l))
 
 -- ---- an accepted run with vectors of its own
 
@@ -164,10 +154,10 @@ lent shape c a b words par work cone t needed e =
     let h = needed-fits shape c a b words par work cone t needed e in
     record { ready = t .ready; steps = t .steps; work-long = t .work-long; cone-long = part-is needed cone h ∙ e }
 
-pub left-as : (p : Problem) (work cone : List Float) (needed : ℕ) → needed ≡ coneWork (blocks p) → (answer : Answer) (work' cone' : List Float) → RanIn p work answer work' cone' → LeftAs p work cone answer work' (put 0 needed cone cone')
+pub left-as : (p : Problem) (work cone log : List Float) (needed : ℕ) → needed ≡ coneWork (blocks p) → (answer : Logged) (work' cone' log' : List Float) → RanIn p work log answer work' cone' log' → LoggedAs (leftLogged p work cone log) answer work' (put 0 needed cone cone') log'
 unfolding leftBy
-left-as p work cone needed e answer work' cone' r =
-    record { answered = r .answered; work-left = r .work-is; cone-left = rw (from-start needed, e, r .cone-is) }
+left-as p work cone log needed e answer work' cone' log' r =
+    record { answered = r .answered; work-left = r .work-is; cone-left = rw (from-start needed, e, r .cone-is); log-left = r .log-is }
 
 pub at-zero : (shape : Shape) → shape .rows .0 ≤ limit → shape .cols .0 ≤ limit → (longX longY : ℕ) → longX ≡ 3 * limit + 1 → longY ≡ 2 * limit + 1
     → (let x = take (lengthX (shape .rows .0) (shape .cols .0) - 0) (drop 0 (replicate longX +0)) in let y = take (lengthY (shape .rows .0) (shape .cols .0) - 0) (drop 0 (replicate longY +0)) in AtZero shape x y x y x x)

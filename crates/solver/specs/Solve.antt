@@ -7,6 +7,7 @@ use lib.Ieee.{Float}
 use lib.ListN.{length, drop}
 use Rattle.rules.specs.declared.Answer.{Answer}
 use Rattle.rules.specs.declared.Ending.{Ending}
+use Rattle.rules.specs.declared.Logged.{Logged}
 use Rattle.rules.specs.declared.Shape.{Shape}
 use Rattle.rules.specs.declared.SolverParam.{SolverParam}
 use Rattle.rules.specs.declared.Verdict.{Verdict}
@@ -18,7 +19,9 @@ use Rattle.rules.specs.Product.{coneWork}
 use Rattle.rules.specs.Problem.{Problem, Slices, blocks, lengthX, lengthY, workLength}
 use Rattle.rules.specs.Prepare.{zeros}
 use Rattle.rules.specs.Run.{endingOf, Ended, run, laidOut, isConeFailure, leftBy}
+use Rattle.rules.specs.Progress.{LoggedLeft, withLog, logAfter}
 use Rattle.shape.specs.Fitting.{Fits}
+use Rattle.iterate.specs.declared.RowCounts.{RowCounts}
 
 -- a problem that was not turned away, as the run reads it
 pub record Ready (shape : Shape) (c : List Float) (a : Slices) (b : List Float) (words : List ℕ) (par : SolverParam) : Type 0 where
@@ -45,22 +48,32 @@ pub record AtZero (shape : Shape) (x y dpTau dpSigma rx tx : List Float) : Type 
   pub rx-zero : rx ≡ zeros (lengthX (shape .rows .0) (shape .cols .0))
   pub tx-zero : tx ≡ zeros (lengthX (shape .rows .0) (shape .cols .0))
 
+-- what is answered with this ending, steps and rotations, and these rows
+abbrev pub loggedBy : Ending → ℕ → ℕ → RowCounts → Logged
+loggedBy e k q counts =
+    record { answer = record { ending = e; steps = k; rotations = q }; written = counts .written; dropped = counts .dropped }
+
 -- the answer to a problem that is turned away
-abbrev pub turnedAwayBy : Ending → Answer
-turnedAwayBy e = record { ending = e; steps = 0; rotations = 0 }
+abbrev pub turnedAwayBy : Ending → Logged
+turnedAwayBy e = record { answer = record { ending = e; steps = 0; rotations = 0 }; written = 0; dropped = 0 }
 
 abbrev pub answerOf : Ended → Answer
 answerOf e = record { ending = e .ending; steps = e .steps; rotations = e .rotations }
 
 -- the same of what a piece of a run answers
-abbrev pub answerBy : Verdict → ℕ → ℕ → Answer
-answerBy said k q = record { ending = endingOf said; steps = k; rotations = q }
+abbrev pub answerBy : Verdict → ℕ → ℕ → RowCounts → Logged
+answerBy said k q counts = loggedBy (endingOf said) k q counts
+
+-- what an accepted run leaves, by the rule, with its record
+abbrev pub leftLogged : Problem → List Float → List Float → List Float → LoggedLeft
+leftLogged p work cone log = withLog (leftBy p work cone (run p)) (logAfter p log (run p .steps))
 
 -- what the whole run leaves; of cone work the required part
-pub record RanIn (p : Problem) (work : List Float) (answer : Answer) (work' cone' : List Float) : Type 0 where
-  pub answered : answer ≡ answerOf (run p)
+pub record RanIn (p : Problem) (work log : List Float) (answer : Logged) (work' cone' log' : List Float) : Type 0 where
+  pub answered : answer ≡ record { answer = answerOf (run p); written = logAfter p log (run p .steps) .written; dropped = logAfter p log (run p .steps) .dropped }
   pub work-is : work' ≡ cond (isConeFailure (run p .ending)) (zeros (workLength (p .m) (p .n))) (laidOut p (run p .ending) (run p .state)) ++ drop (workLength (p .m) (p .n)) work
   pub cone-is : cone' ≡ cond (isConeFailure (run p .ending)) (zeros (coneWork (blocks p))) (run p .state .cone)
+  pub log-is : log' ≡ logAfter p log (run p .steps) .places
 
 -- a problem that was accepted, with buffers that are long enough
 pub record Taken (shape : Shape) (c : List Float) (a : Slices) (b : List Float) (words : List ℕ) (par : SolverParam) (work cone : List Float) : Type 0 where
@@ -73,9 +86,3 @@ pub record Taken (shape : Shape) (c : List Float) (a : Slices) (b : List Float) 
 pub record Handed (shape : Shape) (c : List Float) (a : Slices) (b : List Float) (words : List ℕ) (par : SolverParam) (work cone : List Float) : Type 0 where
   pub taken : Taken shape c a b (plainWords words) par work cone
   pub few-words : length words ≤ mostWords
-
--- what an accepted run leaves, by the rule
-pub record LeftAs (p : Problem) (work cone : List Float) (answer : Answer) (work' cone' : List Float) : Type 0 where
-  pub answered : answer ≡ leftBy p work cone (run p) .answer
-  pub work-left : work' ≡ leftBy p work cone (run p) .work
-  pub cone-left : cone' ≡ leftBy p work cone (run p) .cone

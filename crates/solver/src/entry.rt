@@ -4,6 +4,7 @@ use rules::Answer;
 use rules::Cols;
 use rules::Ending;
 use rules::LIMIT;
+use rules::Logged;
 use rules::MOST_WORDS;
 use rules::Refusal;
 use rules::Rows;
@@ -15,7 +16,8 @@ ghost use Rattle.rules.specs.Groups.{plainWords};
 ghost use Rattle.rules.specs.Refusals.{SolveOutcome};
 ghost use Rattle.rules.specs.Problem.{slices, problemOf, problemIn};
 ghost use Rattle.rules.specs.Split.{splitOf, SplitOutcome};
-ghost use Rattle.solver.specs.Solve.{turnedAwayBy, Handed, LeftAs};
+ghost use Rattle.rules.specs.Progress.{LoggedAs, LoggedOutcome, SplitLoggedOutcome};
+ghost use Rattle.solver.specs.Solve.{turnedAwayBy, Handed, leftLogged};
 
 // The longest x and the longest y.
 const LONG_X: usize = 3 * LIMIT + 1;
@@ -41,6 +43,45 @@ pub fn solve(
         (problemOf (rows .0) (cols .0) storage (now (c .entry)) (now (a .entry)) (now (b .entry))
         (now (words .entry)) par)
         (now (work .entry)) (now («cone_work» .entry)) r (now (work .exit)) (now («cone_work» .exit))
+        ⌝ }
+{
+    let mut none = [0.0; 0];
+    let logged = solve_logged(
+        par,
+        rows,
+        cols,
+        storage,
+        c,
+        a,
+        b,
+        words,
+        work,
+        cone_work,
+        &mut none,
+    );
+    logged.answer
+}
+
+// The same with a progress record in a third buffer, of any length: a row of four numbers at steps 1, 1 + log_period and so on.
+pub fn solve_logged(
+    par: SolverParam,
+    rows: Rows,
+    cols: Cols,
+    storage: Storage,
+    c: &[f64],
+    a: &[f64],
+    b: &[f64],
+    words: &[u16],
+    work: &mut [f64],
+    cone_work: &mut [f64],
+    log: &mut [f64],
+) -> Logged
+    ensures { λ r. ⌜
+        LoggedOutcome
+        (problemOf (rows .0) (cols .0) storage (now (c .entry)) (now (a .entry)) (now (b .entry))
+        (now (words .entry)) par)
+        (now (work .entry)) (now («cone_work» .entry)) (now (log .entry))
+        r (now (work .exit)) (now («cone_work» .exit)) (now (log .exit))
         ⌝ }
 {
     let found = checks::check(
@@ -74,6 +115,7 @@ pub fn solve(
                 words,
                 work,
                 cone_work,
+                log,
             )
         }
     }
@@ -99,6 +141,47 @@ pub fn solve_split<'a>(
         (splitOf (rows .0) (cols .0) (first .0) (now (c .entry)) (now (factory .entry)) (now (lesson .entry))
         (now (b .entry)) (now (words .entry)) par)
         (now (work .entry)) (now («cone_work» .entry)) r (now (work .exit)) (now («cone_work» .exit))
+        ⌝ }
+{
+    let mut none = [0.0; 0];
+    let logged = solve_split_logged(
+        par,
+        rows,
+        cols,
+        first,
+        c,
+        factory,
+        lesson,
+        b,
+        words,
+        work,
+        cone_work,
+        &mut none,
+    );
+    logged.answer
+}
+
+// The same with a progress record in a third buffer.
+pub fn solve_split_logged<'a>(
+    par: SolverParam,
+    rows: Rows,
+    cols: Cols,
+    first: Cols,
+    c: &[f64],
+    factory: &'a [f64],
+    lesson: &'a [f64],
+    b: &[f64],
+    words: &[u16],
+    work: &mut [f64],
+    cone_work: &mut [f64],
+    log: &mut [f64],
+) -> Logged
+    ensures { λ r. ⌜
+        SplitLoggedOutcome
+        (splitOf (rows .0) (cols .0) (first .0) (now (c .entry)) (now (factory .entry)) (now (lesson .entry))
+        (now (b .entry)) (now (words .entry)) par)
+        (now (work .entry)) (now («cone_work» .entry)) (now (log .entry))
+        r (now (work .exit)) (now («cone_work» .exit)) (now (log .exit))
         ⌝ }
 {
     let found = checks::check_split(
@@ -133,19 +216,24 @@ pub fn solve_split<'a>(
                 words,
                 work,
                 cone_work,
+                log,
             )
         }
     }
 }
 
-// The answer to a problem that is turned away: no step was taken.
-fn turned_away(e: Ending) -> Answer
+// The answer to a problem that is turned away: no step was taken, and no row was written.
+fn turned_away(e: Ending) -> Logged
     ensures { λ r. ⌜ r ≡ turnedAwayBy e ⌝ }
 {
-    Answer {
-        ending: e,
-        steps: 0,
-        rotations: 0,
+    Logged {
+        answer: Answer {
+            ending: e,
+            steps: 0,
+            rotations: 0,
+        },
+        written: 0,
+        dropped: 0,
     }
 }
 
@@ -160,12 +248,16 @@ fn accepted<'a>(
     words: &[u16],
     work: &mut [f64],
     cone_work: &mut [f64],
-) -> Answer
+    log: &mut [f64],
+) -> Logged
     requires { ⌜ Handed shape (now c) (slices (now a1) (now a2)) (now b) (now words) par (now work) (now «cone_work») ⌝ }
     ensures { λ r. ⌜
-        LeftAs (problemIn shape (now (c .entry)) (slices (now (a1 .entry)) (now (a2 .entry)))
+        LoggedAs
+        (leftLogged
+        (problemIn shape (now (c .entry)) (slices (now (a1 .entry)) (now (a2 .entry)))
         (now (b .entry)) (plainWords (now (words .entry))) par)
-        (now (work .entry)) (now («cone_work» .entry)) r (now (work .exit)) (now («cone_work» .exit))
+        (now (work .entry)) (now («cone_work» .entry)) (now (log .entry)))
+        r (now (work .exit)) (now («cone_work» .exit)) (now (log .exit))
         ⌝ }
 {
     let m = shape.rows.0;
@@ -198,5 +290,6 @@ fn accepted<'a>(
         &mut tx[0..nx],
         work,
         &mut cone_work[0..needed],
+        log,
     )
 }

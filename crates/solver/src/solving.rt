@@ -1,8 +1,10 @@
 // An accepted run, in vectors and buffers that were made for it.
 use iterate::Iterated;
+use iterate::RowCounts;
 use prepare::Prepared;
 use rules::Answer;
 use rules::Ending;
+use rules::Logged;
 use rules::Norms;
 use rules::Shape;
 use rules::SolverParam;
@@ -14,7 +16,8 @@ ghost use Rattle.rules.specs.declared.Verdict.{Verdict};
 ghost use Rattle.rules.specs.Problem.{slices, problemIn};
 ghost use Rattle.prepare.specs.declared.Prepared.the-variants.{Done};
 ghost use Rattle.iterate.specs.declared.Iterated.the-variants.{Made};
-ghost use Rattle.solver.specs.Solve.{Lent, AtZero, answerBy, RanIn};
+ghost use Rattle.iterate.specs.declared.RowCounts.{RowCounts};
+ghost use Rattle.solver.specs.Solve.{Lent, AtZero, loggedBy, answerBy, RanIn};
 
 // The whole run, with its six vectors at zero.
 pub(crate) fn run_in<'a>(
@@ -33,13 +36,14 @@ pub(crate) fn run_in<'a>(
     tx: &mut [f64],
     work: &mut [f64],
     cone_work: &mut [f64],
-) -> Answer
+    log: &mut [f64],
+) -> Logged
     requires { ⌜ Lent shape (now c) (slices (now a1) (now a2)) (now b) (now words) par (now work) (now «cone_work») ⌝ }
     requires { ⌜ AtZero shape (now x) (now y) (now «dp_tau») (now «dp_sigma») (now rx) (now tx) ⌝ }
     ensures { λ r. ⌜
         RanIn (problemIn shape (now (c .entry)) (slices (now (a1 .entry)) (now (a2 .entry))) (now (b .entry))
         (now (words .entry)) par)
-        (now (work .entry)) r (now (work .exit)) (now («cone_work» .exit))
+        (now (work .entry)) (now (log .entry)) r (now (work .exit)) (now («cone_work» .exit)) (now (log .exit))
         ⌝ }
 {
     linalg::clear(cone_work);
@@ -64,8 +68,10 @@ pub(crate) fn run_in<'a>(
         rx,
         tx,
         cone_work,
+        log,
     );
-    let answer = answer_of(ran);
+    let logged = answer_of(ran);
+    let answer = logged.answer;
     let ending = answer.ending;
     let rows = shape.rows;
     let cols = shape.cols;
@@ -82,7 +88,7 @@ pub(crate) fn run_in<'a>(
         work,
         cone_work,
     );
-    answer
+    logged
 }
 
 // The norms, of one that was prepared.
@@ -96,29 +102,39 @@ fn norms_of(prepared: Prepared) -> Norms
     }
 }
 
-// The answer, of steps that were taken: what the last one said, with their number and their rotations.
-fn answer_of(ran: Iterated) -> Answer
-    ensures { λ r. ⌜ ((said : Verdict) (k q : ℕ) → ran ≡ Made said k q → r ≡ answerBy said k q) ⌝ }
+// The answer, of steps that were taken: what the last one said, with their number, their rotations and their rows.
+fn answer_of(ran: Iterated) -> Logged
+    ensures { λ r. ⌜
+        ((said : Verdict) (k q : ℕ) (counts : RowCounts) → ran ≡ Made said k q counts → r ≡ answerBy said k q counts)
+        ⌝ }
 {
     match ran {
-        Iterated::Made(v, k, q) => match v {
-            Verdict::Ends(e) => Answer {
-                ending: e,
-                steps: k,
-                rotations: q,
-            },
+        Iterated::Made(v, k, q, counts) => match v {
+            Verdict::Ends(e) => logged(e, k, q, counts),
             // with all of the allowance a run always ends
-            Verdict::GoesOn => Answer {
-                ending: Ending::ConeFailure(0),
-                steps: k,
-                rotations: q,
-            },
+            Verdict::GoesOn => logged(Ending::ConeFailure(0), k, q, counts),
         },
         // the sizes always fit here
-        Iterated::No => Answer {
-            ending: Ending::ConeFailure(0),
-            steps: 0,
-            rotations: 0,
+        Iterated::No => {
+            let counts = RowCounts {
+                written: 0,
+                dropped: 0,
+            };
+            logged(Ending::ConeFailure(0), 0, 0, counts)
+        }
+    }
+}
+
+fn logged(ending: Ending, steps: u64, rotations: u64, counts: RowCounts) -> Logged
+    ensures { λ r. ⌜ r ≡ loggedBy ending steps rotations counts ⌝ }
+{
+    Logged {
+        answer: Answer {
+            ending,
+            steps,
+            rotations,
         },
+        written: counts.written,
+        dropped: counts.dropped,
     }
 }

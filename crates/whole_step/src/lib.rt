@@ -1,30 +1,28 @@
-// One whole step: update_vecs, then the criteria, and what they say of the run.
+// One whole step: update_vecs, then the criteria.
 use criteria::Judgement;
 use rules::Criteria;
-use rules::Ending;
 use rules::Norms;
 use rules::Product;
 use rules::Shape;
 use rules::SolverParam;
-use rules::Verdict;
 use step::update_vecs;
 ghost use mathlib.Core.Path.{_≡_};
 ghost use Rattle.rules.specs.Criteria.{judged};
 ghost use Rattle.rules.specs.Problem.{slices, problemIn, embedIn};
-ghost use Rattle.rules.specs.Product.{none};
-ghost use Rattle.rules.specs.Run as rules;
 ghost use Rattle.shape.specs.Fitting.{Fits, LikeX};
 ghost use Rattle.step.specs.Update.{stateOf, stepFits};
 ghost use Rattle.whole_step.specs.WholeStep.{WholeStepOutcome};
 
-// What a whole step answers: its verdict with the rotations that it made, or a plain no.
+// What a whole step answers: its criteria with the rotations that it made, or the block that failed with those up to there, or a
+// plain no.
 pub enum StepAnswer {
-    Said(Verdict, u64),
+    Judged(Criteria, u64),
+    Failed(usize, u64),
     No,
 }
 
-// Step k, and whether it ends the run. Where a length, a size, the cone list or the sweep limit doesn't fit, it answers
-// no and changes nothing.
+// A step and its criteria. Where a length, a size, the cone list or the sweep limit doesn't fit, it answers no and changes
+// nothing.
 pub fn whole_step(
     par: SolverParam,
     shape: Shape,
@@ -34,7 +32,6 @@ pub fn whole_step(
     b: &[f64],
     words: &[u16],
     norms: Norms,
-    k: u64,
     x: &mut [f64],
     y: &mut [f64],
     dp_tau: &[f64],
@@ -50,7 +47,7 @@ pub fn whole_step(
         (stepFits par shape (now (c .entry)) (slices (now (a1 .entry)) (now (a2 .entry))) (now (b .entry))
         (now (words .entry)) s)
         (problemIn shape (now (c .entry)) (slices (now (a1 .entry)) (now (a2 .entry))) (now (b .entry))
-        (now (words .entry)) par) norms k s
+        (now (words .entry)) par) norms s
         r
         (stateOf (now (x .exit)) (now (y .exit)) (now («dp_tau» .entry)) (now («dp_sigma» .entry))
         (now (rx .exit)) (now (tx .exit)) (now («cone_work» .exit))))
@@ -74,15 +71,15 @@ pub fn whole_step(
     );
     match p {
         Product::Done(q) => {
-            let v = judge(par, shape, c, a1, a2, b, norms, k, x, rx);
-            StepAnswer::Said(v, q)
+            let found = judge(par, shape, c, a1, a2, b, norms, x, rx);
+            StepAnswer::Judged(found, q)
         }
-        Product::Failed(block, q) => StepAnswer::Said(Verdict::Ends(Ending::ConeFailure(block)), q),
+        Product::Failed(block, q) => StepAnswer::Failed(block, q),
         Product::No => StepAnswer::No,
     }
 }
 
-// The criteria of a step whose cones did not fail, and what they say.
+// The criteria of a step whose cones did not fail.
 fn judge(
     par: SolverParam,
     shape: Shape,
@@ -91,19 +88,17 @@ fn judge(
     a2: &[f64],
     b: &[f64],
     norms: Norms,
-    k: u64,
     x: &[f64],
     rx: &mut [f64],
-) -> Verdict
+) -> Criteria
     requires { ⌜ Fits shape (now c) (slices (now a1) (now a2)) (now b) ⌝ }
     requires { ⌜ LikeX shape (now x) ⌝ }
     requires { ⌜ LikeX shape (now rx) ⌝ }
     ensures says { λ r. ⌜
         r
-        ≡ rules.verdict par k none
-        (judged (embedIn shape (now (c .entry)) (slices (now (a1 .entry)) (now (a2 .entry)))
+        ≡ judged (embedIn shape (now (c .entry)) (slices (now (a1 .entry)) (now (a2 .entry)))
         (now (b .entry))) (par .«eps_zero») norms
-        (now (x .entry)) (now (rx .entry)) .criteria)
+        (now (x .entry)) (now (rx .entry)) .criteria
         ⌝ }
     ensures rx_left { λ r. ⌜
         now (rx .exit)
@@ -114,18 +109,8 @@ fn judge(
 {
     let j = criteria::judge(par, shape, c, a1, a2, b, norms, x, rx);
     match j {
-        Judgement::Of(found) => says(par, k, found),
+        Judgement::Of(found) => found,
         // the sizes always fit here
-        Judgement::No => Verdict::Ends(Ending::ConeFailure(0)),
-    }
-}
-
-// What a step's criteria say at step k.
-fn says(par: SolverParam, k: u64, found: Criteria) -> Verdict
-    ensures { λ r. ⌜ r ≡ rules.verdict par k none found ⌝ }
-{
-    match found {
-        Criteria::Conv(pri, dual, gap) => verdict::of_conv(par, k, pri, dual, gap),
-        Criteria::Inf(unbdd, infeas) => verdict::of_inf(par, k, unbdd, infeas),
+        Judgement::No => Criteria::Inf(0.0, 0.0),
     }
 }

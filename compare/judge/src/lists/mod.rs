@@ -5,6 +5,7 @@ pub mod cones;
 mod grouped;
 pub mod kernels;
 mod large_norms;
+pub mod logs;
 pub mod roots;
 pub mod runs;
 
@@ -17,5 +18,6 @@ pub fn make(seed: u64, crates: &Path) -> std::io::Result<()> {
     kernels::make(seed, &crates.join("replay_kernels/stdin"))?;
     cones::make(seed, &crates.join("replay_cones/stdin"))?;
     runs::make(seed, &crates.join("replay_runs/stdin"))?;
+    logs::make(seed, &crates.join("replay_logs/stdin"))?;
     cards::make(seed, &crates.join("replay_cards"), &crates.join("../cards"))
 }

@@ -3,7 +3,7 @@
 
 mod grouped;
 mod large_norms;
-mod refusals;
+pub(super) mod refusals;
 mod term;
 
 use std::collections::BTreeMap;
@@ -27,7 +27,7 @@ const BELOW_ZERO: u64 = 16;
 const LARGE_NORM: u64 = 32;
 
 /// What the answer's first word is, from 1 to 6 for refusals.
-const NAMES: [(u64, &str); 12] = [
+pub(super) const NAMES: [(u64, &str); 12] = [
     (1, "BadParam"),
     (2, "TooLarge"),
     (3, "InvalidOp"),
@@ -42,7 +42,7 @@ const NAMES: [(u64, &str); 12] = [
     (12, "ConeFailure"),
 ];
 
-const DIFFERENCES: [(u64, &str); 6] = [
+pub(super) const DIFFERENCES: [(u64, &str); 6] = [
     (EPS_ZERO, "eps_zero of -0"),
     (SWEEP_LIMIT, "a sweep limit reached"),
     (ZEROS, "a larger or smaller of -0 and +0"),
@@ -68,7 +68,7 @@ struct Records {
     raised: Vec<Handed>,
 }
 
-fn ending_number(ending: &Ending) -> u64 {
+pub(super) fn ending_number(ending: &Ending) -> u64 {
     match ending {
         Ending::Converged(_) => 7,
         Ending::ExcessIter(_) => 8,
@@ -113,7 +113,7 @@ pub fn same_over_plain(p: &Problem, answer: &Answer) {
 }
 
 /// The problem, and what is lent with it.
-fn asked(p: &Handed) -> Vec<u64> {
+pub(super) fn asked(p: &Handed) -> Vec<u64> {
     let mut all = vec![p.max_iter, p.sweep_limit];
     all.extend([p.eps_acc, p.eps_inf, p.eps_zero].map(f64::to_bits));
     let storage = if p.twice { 2 } else { u64::from(p.packed) };
@@ -126,6 +126,73 @@ fn asked(p: &Handed) -> Vec<u64> {
     }
     all.extend([p.work as u64, p.cone_work as u64, p.fill.to_bits()]);
     all
+}
+
+/// What comes of a problem: the differences met, the answer's words, and the answer if it was run.
+pub(super) struct Judged {
+    pub(super) tag: u64,
+    pub(super) told: Vec<u64>,
+    pub(super) answer: Option<Answer>,
+}
+
+pub(super) fn judged(p: &Handed) -> Judged {
+    match p.refusal() {
+        Some(number) => refused(p, number),
+        None => run(p),
+    }
+}
+
+/// A refusal. One for an eps_acc or eps_inf below zero alone is tagged: the original would run it.
+fn refused(p: &Handed, number: u64) -> Judged {
+    Judged {
+        tag: match p.raised().refusal() {
+            None => BELOW_ZERO,
+            Some(_) => 0,
+        },
+        told: vec![number, 0, 0, 0, 0, 0, 0, 0],
+        answer: None,
+    }
+}
+
+/// Runs the original.
+fn run(p: &Handed) -> Judged {
+    let problem = p.problem();
+    let mut tag = 0;
+    if p.eps_zero.to_bits() == (-0.0f64).to_bits() {
+        tag += EPS_ZERO;
+    }
+    if problem.stops() {
+        tag += STOPS;
+    }
+    let answer = problem.solve();
+    same_over_plain(&problem, &answer);
+    if answer.unlike_zeros > 0 {
+        tag += ZEROS;
+    }
+    if answer.large_norms > 0 {
+        tag += LARGE_NORM;
+    }
+    if matches!(answer.ending, Ending::ConeFailure(_)) {
+        tag += SWEEP_LIMIT;
+    }
+    Judged {
+        tag,
+        told: told(p, &answer),
+        answer: Some(answer),
+    }
+}
+
+/// The words of an answer.
+pub(super) fn told(p: &Handed, answer: &Answer) -> Vec<u64> {
+    let number = ending_number(&answer.ending);
+    let mut told = vec![number, answer.k, answer.q];
+    told.extend(carried(&answer.ending));
+    told.extend([work_places(p.m, p.n) as u64, p.needed_cone_work() as u64]);
+    if !matches!(answer.ending, Ending::ConeFailure(_)) {
+        told.extend(words(&answer.work));
+        told.extend(words(&answer.cone_work));
+    }
+    told
 }
 
 impl Records {
@@ -149,59 +216,19 @@ impl Records {
         if p.is_below_zero() {
             self.raised.push(p.raised());
         }
-        match p.refusal() {
-            Some(number) => self.refused(p, number),
-            None => self.run(p),
+        let judged = judged(p);
+        if let Some(answer) = &judged.answer {
+            self.steps += answer.k;
+            self.rotations += answer.q;
+            self.products += answer.k * (p.m * p.n) as u64;
         }
+        self.push(p, judged.tag, &judged.told);
     }
 
     fn take_all(&mut self, problems: Vec<Handed>) {
         for p in &problems {
             self.take(p);
         }
-    }
-
-    /// Writes a refusal. One for an eps_acc or eps_inf below zero alone is tagged: the original would run it.
-    fn refused(&mut self, p: &Handed, number: u64) {
-        let tag = match p.raised().refusal() {
-            None => BELOW_ZERO,
-            Some(_) => 0,
-        };
-        self.push(p, tag, &[number, 0, 0, 0, 0, 0, 0, 0]);
-    }
-
-    /// Runs the original and writes what it answers.
-    fn run(&mut self, p: &Handed) {
-        let problem = p.problem();
-        let mut tag = 0;
-        if p.eps_zero.to_bits() == (-0.0f64).to_bits() {
-            tag += EPS_ZERO;
-        }
-        if problem.stops() {
-            tag += STOPS;
-        }
-        let answer = problem.solve();
-        same_over_plain(&problem, &answer);
-        if answer.unlike_zeros > 0 {
-            tag += ZEROS;
-        }
-        if answer.large_norms > 0 {
-            tag += LARGE_NORM;
-        }
-        let number = ending_number(&answer.ending);
-        let mut told = vec![number, answer.k, answer.q];
-        told.extend(carried(&answer.ending));
-        told.extend([work_places(p.m, p.n) as u64, p.needed_cone_work() as u64]);
-        if matches!(answer.ending, Ending::ConeFailure(_)) {
-            tag += SWEEP_LIMIT;
-        } else {
-            told.extend(words(&answer.work));
-            told.extend(words(&answer.cone_work));
-        }
-        self.steps += answer.k;
-        self.rotations += answer.q;
-        self.products += answer.k * (p.m * p.n) as u64;
-        self.push(p, tag, &told);
     }
 }
 

@@ -1,4 +1,4 @@
-//! The stored lists of kernels, cones, runs and cards, read back.
+//! The stored lists of kernels, cones, runs, logs and cards, read back.
 
 // Each test reads some of them.
 #![allow(dead_code)]
@@ -8,6 +8,7 @@ use std::fs;
 use judge::card::{self, Card};
 use judge::cone_list::Block;
 use judge::handed::{Handed, Vector};
+use judge::log_rows::Log;
 use judge::original::Kind;
 
 pub struct Run {
@@ -18,6 +19,15 @@ pub struct Run {
     /// The listed differences that it meets, and the whole answer.
     pub tag: u64,
     pub answer: Vec<u64>,
+}
+
+/// A record of the list of logs.
+pub struct LoggedRun {
+    pub run: Run,
+    pub log: Log,
+    pub written: u64,
+    pub dropped: u64,
+    pub rows: Vec<u64>,
 }
 
 struct Words<'a> {
@@ -52,13 +62,13 @@ impl Words<'_> {
         }
     }
 
-    /// A record after its first two words.
-    fn run(&mut self, tag: u64) -> Run {
+    /// The problem of a record, and what is lent with it.
+    fn handed(&mut self) -> Handed {
         let (max_iter, sweep_limit) = (self.take(), self.take());
         let (eps_acc, eps_inf, eps_zero) = (self.number(), self.number(), self.number());
         let (storage, n, m, count) = (self.take(), self.size(), self.size(), self.size());
         let words = self.take_all(count);
-        let handed = Handed {
+        Handed {
             max_iter,
             sweep_limit,
             eps_acc,
@@ -75,7 +85,12 @@ impl Words<'_> {
             work: self.size(),
             cone_work: self.size(),
             fill: self.number(),
-        };
+        }
+    }
+
+    /// A record after its first two words.
+    fn run(&mut self, tag: u64) -> Run {
+        let handed = self.handed();
         let answer = self.left.to_vec();
         Run {
             handed,
@@ -83,6 +98,39 @@ impl Words<'_> {
             block: answer[3],
             tag,
             answer,
+        }
+    }
+}
+
+impl Words<'_> {
+    /// A record of the list of logs after its first two words: a run's answer says how long it is.
+    fn logged(&mut self, tag: u64) -> LoggedRun {
+        let handed = self.handed();
+        let mut answer = self.take_all(8);
+        if answer[0] != 12 {
+            let left = self.take_all((answer[6] + answer[7]) as usize);
+            answer.extend(left);
+        }
+        let log = Log {
+            period: u32::try_from(self.take()).unwrap(),
+            places: self.size(),
+            fill: self.number(),
+        };
+        let (written, dropped) = (self.take(), self.take());
+        let rows = self.take_all(4 * written as usize);
+        assert!(self.left.is_empty());
+        LoggedRun {
+            run: Run {
+                handed,
+                number: answer[0],
+                block: answer[3],
+                tag,
+                answer,
+            },
+            log,
+            written,
+            dropped,
+            rows,
         }
     }
 }
@@ -100,6 +148,13 @@ pub fn runs() -> Vec<Run> {
     let records = records("replay_runs/stdin").into_iter();
     records
         .map(|(tag, record)| Words { left: &record }.run(tag))
+        .collect()
+}
+
+pub fn logs() -> Vec<LoggedRun> {
+    let records = records("replay_logs/stdin").into_iter();
+    records
+        .map(|(tag, record)| Words { left: &record }.logged(tag))
         .collect()
 }
 

@@ -1,5 +1,5 @@
-//! Stand-in for the crate log. It writes nothing. A thread that listens keeps the last debug
-//! line: the original tells the criteria that end a run nowhere else.
+//! Stand-in for the crate log. It writes nothing. A thread that listens keeps every debug
+//! line: the original tells the criteria of its steps nowhere else.
 
 use std::cell::RefCell;
 use std::fmt::Arguments;
@@ -13,24 +13,26 @@ pub enum Level {
 }
 
 thread_local! {
-    static LAST: RefCell<Option<String>> = const { RefCell::new(None) };
+    static LINES: RefCell<Option<Vec<String>>> = const { RefCell::new(None) };
 }
 
-/// From here on this thread keeps the last debug line.
+/// From here on this thread keeps every debug line.
 pub fn listen() {
-    LAST.with(|last| *last.borrow_mut() = Some(String::new()));
+    LINES.with(|lines| *lines.borrow_mut() = Some(Vec::new()));
 }
 
-/// The last debug line since `listen`; the thread listens no longer.
-pub fn heard() -> Option<String> {
-    LAST.with(|last| last.borrow_mut().take())
+/// The debug lines since `listen`; the thread listens no longer.
+pub fn heard() -> Vec<String> {
+    LINES
+        .with(|lines| lines.borrow_mut().take())
+        .unwrap_or_default()
 }
 
 #[doc(hidden)]
 pub fn debug_line(line: Arguments) {
-    LAST.with(|last| {
-        if let Some(text) = last.borrow_mut().as_mut() {
-            *text = line.to_string();
+    LINES.with(|lines| {
+        if let Some(all) = lines.borrow_mut().as_mut() {
+            all.push(line.to_string());
         }
     });
 }

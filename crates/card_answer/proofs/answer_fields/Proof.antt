@@ -22,10 +22,13 @@ solve-fields-requires c κs = search needs
 same-length : tie.Need-same-length
 same-length c = search needs
 
+same-length-2 : tie.Need-same-length-2
+same-length-2 c = search needs
+
 returns : tie.Need-returns
 returns c =
-    let a = c .before .before .before .before .before .before .before .before .before .before .args in
-    fields-outcome (a .packed) (a .rows) (a .cols) (a .count) (a .words .now) (a .max-iter) (a .sweep-limit) (a .numbers .now) (a .work .now) _ _ _ (c .before .before .before .solve-fields .ensures)
+    let a = c .before .before .before .before .before .before .before .before .before .before .before .before .before .before .args in
+    fields-outcome (a .packed) (a .rows) (a .cols) (a .count) (a .words .now) (a .max-iter) (a .sweep-limit) (a .numbers .now) (a .period) (a .work .now) (a .log .now) _ _ _ _ (c .before .before .before .before .before .solve-fields .ensures)
 
 pub answer-fields-spec : {M : Type 1} → statement M
 answer-fields-spec =
@@ -37,4 +40,5 @@ answer-fields-spec =
     slice-aggregate-solve-fields
     solve-fields-requires
     same-length
+    same-length-2
     returns)

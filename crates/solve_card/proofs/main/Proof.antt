@@ -5,28 +5,22 @@ use Rattle.solve_card.proofs.main.Statement.{statement}
 use Rattle.solve_card.proofs.main.Tie as tie
 
 abbrev Inv-loop : tie.InvT-loop
-Inv-loop count i₀ i = i ≤ count
+Inv-loop i₀ i-end i = 2 ≤ i
 
 abbrev μ-loop : tie.MeasureT-loop
-μ-loop count i₀ i = count - i
+μ-loop i₀ i-end i = i-end - i
+
+solve-argument-requires : tie.Need-solve-argument-requires Inv-loop μ-loop
+solve-argument-requires c κs = search needs
 
 arg-count-requires : tie.Need-arg-count-requires Inv-loop μ-loop
 arg-count-requires c κs = search needs
 
-slice-aggregate-solve : tie.Need-slice-aggregate-solve Inv-loop μ-loop
-slice-aggregate-solve c = search needs
-
-solve-requires : tie.Need-solve-requires Inv-loop μ-loop
-solve-requires c κs = search needs
-
-returns : tie.Need-returns Inv-loop μ-loop
-returns c = search needs
-
 loop-holds : tie.Need-loop-holds Inv-loop μ-loop
 loop-holds c = search needs
 
-solve-argument-requires : tie.Need-solve-argument-requires Inv-loop μ-loop
-solve-argument-requires c κs = search needs
+solve-argument-requires-2 : tie.Need-solve-argument-requires-2 Inv-loop μ-loop
+solve-argument-requires-2 c κs = search needs
 
 add-i : tie.Need-add-i Inv-loop μ-loop
 add-i c = search needs
@@ -37,8 +31,8 @@ loop-less c = search needs
 loop-again : tie.Need-loop-again Inv-loop μ-loop
 loop-again c = search needs
 
-returns-2 : tie.Need-returns-2 Inv-loop μ-loop
-returns-2 c = search needs
+returns : tie.Need-returns Inv-loop μ-loop
+returns c = search needs
 
 pub main-spec : {M : Type 1} → statement M
 main-spec =
@@ -46,13 +40,11 @@ main-spec =
     (tie.spec
     Inv-loop
     μ-loop
-    arg-count-requires
-    slice-aggregate-solve
-    solve-requires
-    returns
-    loop-holds
     solve-argument-requires
+    arg-count-requires
+    loop-holds
+    solve-argument-requires-2
     add-i
     loop-less
     loop-again
-    returns-2)
+    returns)

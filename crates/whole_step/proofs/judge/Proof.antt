@@ -1,11 +1,9 @@
 -- `whole_step::judge` meets its contract.
 use native.Mathlib.Omega.{arith}
 use Prim.Native.Nat.{ℕ}
-use mathlib.Core.Path.{_≡_, sym, ap, _∙_}
+use mathlib.Core.Path.{_≡_, sym, _∙_}
 use borrow.Author.Needs.{needs}
 use Rattle.rules.specs.declared.Criteria.{Criteria}
-use Rattle.rules.specs.Product.{none}
-use Rattle.rules.specs.Run.{verdict}
 use Rattle.criteria.specs.declared.Judgement.the-variants.{Of, No}
 use Rattle.criteria.proofs.Judging.{judge-fits, judge-ruled}
 use Rattle.whole_step.proofs.judge.Statement.{statement}
@@ -23,9 +21,6 @@ judge-requires c κs = search needs
 enum-known-j : tie.Need-enum-known-j
 enum-known-j c = search needs
 
-says-requires : tie.Need-says-requires
-says-requires c κs = search needs
-
 enum-told : tie.Need-enum-told
 enum-told c = search needs
 
@@ -34,10 +29,9 @@ same-length c = search needs
 
 returns : tie.Need-returns
 returns c =
-    let s = c .before .before .before .before .before .before .before .before .before .before .before .before .before .before in
-    let k = s .args in
-    let o = judge-ruled (c .before .before .before .before .before .before .judge .ensures) (judge-fits (s .pre .0) (s .pre .1 .0) (s .pre .1 .1)) in
-    (c .says .ensures ∙ ap (verdict (k .par) (k .k) none) (same (sym (c .before .before .j .given .1) ∙ o .0)), o .1)
+    let s = c .before .before .before .before .before .before .before .before .before .before .before .before .before in
+    let o = judge-ruled (c .before .before .before .before .before .judge .ensures) (judge-fits (s .pre .0) (s .pre .1 .0) (s .pre .1 .1)) in
+    (same (sym (c .before .j .given .1) ∙ o .0), o .1)
 
 same-length-2 : tie.Need-same-length-2
 same-length-2 c = search needs
@@ -54,7 +48,6 @@ judge-spec =
     (tie.spec
     judge-requires
     enum-known-j
-    says-requires
     enum-told
     same-length
     returns

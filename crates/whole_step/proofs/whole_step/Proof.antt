@@ -15,7 +15,7 @@ enum-known-p c = search needs
 judge-requires : tie.Need-judge-requires
 judge-requires c κs =
     let k = c .before .before .before .before .before .before .before .before .before .before .before .before .before .before .before .before .before .before .before .before .before .before .before .before .before .before .before .before .before .before .before .before .before .args in
-    judge-ready (k .par) (k .shape) (k .c .now) (slices (k .a1 .now) (k .a2 .now)) (k .b .now) (k .words .now) (k .norms) (k .k) (k .x .now) (k .y .now) (k .dp-tau .now) (k .dp-sigma .now) (k .rx .now) (k .tx .now) (k .cone-work .now) (c .before .before .before .before .before .before .before .before .before .before .before .before .before .before .before .update-vecs .ensures) (c .before .before .before .p .given .1) (c .before .before .before .before .before .before .before .before .before .before .before .before .before .before .before .update-vecs .kept .1 .1 .1 .1 .1 .1 .1 .0) (c .before .before .before .before .before .before .before .before .before .before .before .before .before .before .before .update-vecs .kept .1 .1 .1 .1 .1 .1 .1 .1 .1 .1 .1 .0)
+    judge-ready (k .par) (k .shape) (k .c .now) (slices (k .a1 .now) (k .a2 .now)) (k .b .now) (k .words .now) (k .norms) (k .x .now) (k .y .now) (k .dp-tau .now) (k .dp-sigma .now) (k .rx .now) (k .tx .now) (k .cone-work .now) (c .before .before .before .before .before .before .before .before .before .before .before .before .before .before .before .update-vecs .ensures) (c .before .before .before .p .given .1) (c .before .before .before .before .before .before .before .before .before .before .before .before .before .before .before .update-vecs .kept .1 .1 .1 .1 .1 .1 .1 .0) (c .before .before .before .before .before .before .before .before .before .before .before .before .before .before .before .update-vecs .kept .1 .1 .1 .1 .1 .1 .1 .1 .1 .1 .1 .0)
 
 enum-known-p-2 : tie.Need-enum-known-p-2
 enum-known-p-2 c = search needs
@@ -30,7 +30,7 @@ same-length-2 : tie.Need-same-length-2
 same-length-2 c = c .before .before .before .before .before .before .before .before .before .before .before .before .before .before .before .before .before .before .update-vecs .kept .1 .1 .1 .1 .1 .1 .1 .1 .0
 
 same-length-3 : tie.Need-same-length-3
-same-length-3 c = c .before .before .judge .kept .1 .1 .1 .1 .1 .1 .1 .1 .1 .0 ∙ c .before .before .before .before .before .before .before .before .before .before .before .before .before .before .before .before .before .before .update-vecs .kept .1 .1 .1 .1 .1 .1 .1 .1 .1 .1 .1 .0
+same-length-3 c = c .before .before .judge .kept .1 .1 .1 .1 .1 .1 .1 .1 .0 ∙ c .before .before .before .before .before .before .before .before .before .before .before .before .before .before .before .before .before .before .update-vecs .kept .1 .1 .1 .1 .1 .1 .1 .1 .1 .1 .1 .0
 
 same-length-4 : tie.Need-same-length-4
 same-length-4 c = c .before .before .before .before .before .before .before .before .before .before .before .before .before .before .before .before .before .before .update-vecs .kept .1 .1 .1 .1 .1 .1 .1 .1 .1 .1 .1 .1 .0
@@ -41,7 +41,7 @@ same-length-5 c = c .before .before .before .before .before .before .before .bef
 returns : tie.Need-returns
 returns c =
     let k = c .before .before .before .before .before .before .before .before .before .before .before .before .before .before .before .before .before .before .before .before .before .before .before .before .before .before .before .before .before .before .before .before .before .before .before .before .args in
-    whole-done (k .par) (k .shape) (k .c .now) (slices (k .a1 .now) (k .a2 .now)) (k .b .now) (k .words .now) (k .norms) (k .k) (k .x .now) (k .y .now) (k .dp-tau .now) (k .dp-sigma .now) (k .rx .now) (k .tx .now) (k .cone-work .now) (c .before .before .before .before .before .before .before .before .before .before .before .before .before .before .before .before .before .before .update-vecs .ensures) (c .before .before .before .before .before .before .p .given .1) (c .before .before .judge .ensures .0) (c .before .before .judge .ensures .1)
+    whole-done (k .par) (k .shape) (k .c .now) (slices (k .a1 .now) (k .a2 .now)) (k .b .now) (k .words .now) (k .norms) (k .x .now) (k .y .now) (k .dp-tau .now) (k .dp-sigma .now) (k .rx .now) (k .tx .now) (k .cone-work .now) (c .before .before .before .before .before .before .before .before .before .before .before .before .before .before .before .before .before .before .update-vecs .ensures) (c .before .before .before .before .before .before .p .given .1) (c .before .before .judge .ensures .0) (c .before .before .judge .ensures .1)
 
 same-length-6 : tie.Need-same-length-6
 same-length-6 c = c .before .before .before .before .before .before .before .before .before .before .before .before .before .update-vecs .kept .1 .1 .1 .1 .1 .1 .1 .0
@@ -61,7 +61,7 @@ same-length-10 c = c .before .before .before .before .before .before .before .be
 returns-2 : tie.Need-returns-2
 returns-2 c =
     let k = c .before .before .before .before .before .before .before .before .before .before .before .before .before .before .before .before .before .before .before .before .before .before .before .before .before .before .before .before .before .before .before .args in
-    whole-failed (k .par) (k .shape) (k .c .now) (slices (k .a1 .now) (k .a2 .now)) (k .b .now) (k .words .now) (k .norms) (k .k) (k .x .now) (k .y .now) (k .dp-tau .now) (k .dp-sigma .now) (k .rx .now) (k .tx .now) (k .cone-work .now) (c .before .before .before .before .before .before .before .before .before .before .before .before .before .update-vecs .ensures) (c .before .p2 .given .1)
+    whole-failed (k .par) (k .shape) (k .c .now) (slices (k .a1 .now) (k .a2 .now)) (k .b .now) (k .words .now) (k .norms) (k .x .now) (k .y .now) (k .dp-tau .now) (k .dp-sigma .now) (k .rx .now) (k .tx .now) (k .cone-work .now) (c .before .before .before .before .before .before .before .before .before .before .before .before .before .update-vecs .ensures) (c .before .p2 .given .1)
 
 same-length-11 : tie.Need-same-length-11
 same-length-11 c = c .before .before .before .before .before .before .before .before .before .before .before .before .update-vecs .kept .1 .1 .1 .1 .1 .1 .1 .0
@@ -81,7 +81,7 @@ same-length-15 c = c .before .before .before .before .before .before .before .be
 returns-3 : tie.Need-returns-3
 returns-3 c =
     let k = c .before .before .before .before .before .before .before .before .before .before .before .before .before .before .before .before .before .before .before .before .before .before .before .before .before .before .before .before .before .before .args in
-    whole-no (k .par) (k .shape) (k .c .now) (slices (k .a1 .now) (k .a2 .now)) (k .b .now) (k .words .now) (k .norms) (k .k) (k .x .now) (k .y .now) (k .dp-tau .now) (k .dp-sigma .now) (k .rx .now) (k .tx .now) (k .cone-work .now) (c .before .before .before .before .before .before .before .before .before .before .before .before .update-vecs .ensures) (c .enum-told .given .1)
+    whole-no (k .par) (k .shape) (k .c .now) (slices (k .a1 .now) (k .a2 .now)) (k .b .now) (k .words .now) (k .norms) (k .x .now) (k .y .now) (k .dp-tau .now) (k .dp-sigma .now) (k .rx .now) (k .tx .now) (k .cone-work .now) (c .before .before .before .before .before .before .before .before .before .before .before .before .update-vecs .ensures) (c .enum-told .given .1)
 
 pub whole-step-spec : {M : Type 1} → statement M
 whole-step-spec =

@@ -36,26 +36,26 @@ count-of-requires c κs = search needs
 
 array-share-prefix-plain : tie.Need-array-share-prefix-plain
 array-share-prefix-plain c =
-    let k = c .before .before .before .before .before .before .before .before .before .before .before .args in
-    front-within (k .words .now) _ (c .before .before .before .before .before .before .before .before .before .before .before .pre .few-words) _ _ (c .before .before .flatten .ensures) _ (c .count-of .ensures)
+    let k = c .before .before .before .before .before .before .before .before .before .before .before .before .args in
+    front-within (k .words .now) _ (c .before .before .before .before .before .before .before .before .before .before .before .before .pre .few-words) _ _ (c .before .before .flatten .ensures) _ (c .count-of .ensures)
 
 slice-aggregate-cone-work-len : tie.Need-slice-aggregate-cone-work-len
 slice-aggregate-cone-work-len c =
-    let k = c .before .before .before .before .before .before .before .before .before .before .before .before .args in
-    front-long (k .words .now) _ (c .before .before .before .before .before .before .before .before .before .before .before .before .pre .few-words) _ _ (c .before .before .before .flatten .ensures) _ (c .before .count-of .ensures)
+    let k = c .before .before .before .before .before .before .before .before .before .before .before .before .before .args in
+    front-long (k .words .now) _ (c .before .before .before .before .before .before .before .before .before .before .before .before .before .pre .few-words) _ _ (c .before .before .before .flatten .ensures) _ (c .before .count-of .ensures)
 
 cone-work-len-requires : tie.Need-cone-work-len-requires
 cone-work-len-requires c κs = search needs
 
 array-share-prefix-plain-2 : tie.Need-array-share-prefix-plain-2
 array-share-prefix-plain-2 c =
-    let k = c .before .before .before .before .before .before .before .before .before .before .before .before .before .args in
-    front-within (k .words .now) _ (c .before .before .before .before .before .before .before .before .before .before .before .before .before .pre .few-words) _ _ (c .before .before .before .before .flatten .ensures) _ (c .before .before .count-of .ensures)
+    let k = c .before .before .before .before .before .before .before .before .before .before .before .before .before .before .args in
+    front-within (k .words .now) _ (c .before .before .before .before .before .before .before .before .before .before .before .before .before .before .pre .few-words) _ _ (c .before .before .before .before .flatten .ensures) _ (c .before .before .count-of .ensures)
 
 slice-aggregate-run-in : tie.Need-slice-aggregate-run-in
 slice-aggregate-run-in c =
-    let k = c .before .before .before .before .before .before .before .before .before .before .before .before .before .before .args in
-    front-long (k .words .now) _ (c .before .before .before .before .before .before .before .before .before .before .before .before .before .before .pre .few-words) _ _ (c .before .before .before .before .before .flatten .ensures) _ (c .before .before .before .count-of .ensures)
+    let k = c .before .before .before .before .before .before .before .before .before .before .before .before .before .before .before .args in
+    front-long (k .words .now) _ (c .before .before .before .before .before .before .before .before .before .before .before .before .before .before .before .pre .few-words) _ _ (c .before .before .before .before .before .flatten .ensures) _ (c .before .before .before .count-of .ensures)
 
 sub-run-in : tie.Need-sub-run-in
 sub-run-in c = search needs
@@ -119,18 +119,18 @@ part-run-in-start c = search needs
 
 part-run-in-end : tie.Need-part-run-in-end
 part-run-in-end c =
-    let k = c .before .before .before .before .before .before .before .before .before .before .before .before .before .before .before .before .before .before .before .before .before .args in
-    let plain = front-is-plain (k .words .now) _ (c .before .before .before .before .before .before .before .before .before .before .before .before .before .before .before .before .before .before .before .before .before .pre .few-words) _ _ (c .before .before .before .before .before .before .before .before .before .before .before .before .flatten .ensures) _ (c .before .before .before .before .before .before .before .before .before .before .count-of .ensures) in
+    let k = c .before .before .before .before .before .before .before .before .before .before .before .before .before .before .before .before .before .before .before .before .before .before .args in
+    let plain = front-is-plain (k .words .now) _ (c .before .before .before .before .before .before .before .before .before .before .before .before .before .before .before .before .before .before .before .before .before .before .pre .few-words) _ _ (c .before .before .before .before .before .before .before .before .before .before .before .before .flatten .ensures) _ (c .before .before .before .before .before .before .before .before .before .before .count-of .ensures) in
     let list = take (c .before .before .before .before .before .before .before .before .before .before .count-of .result) (c .before .before .before .before .before .before .before .before .before .before .before .before .flatten .last .1 .0) in
-    needed-fits (k .shape) (k .c .now) (slices (k .a1 .now) (k .a2 .now)) (k .b .now) list (k .par) (k .work .now) (k .cone-work .now) (rw plain (c .before .before .before .before .before .before .before .before .before .before .before .before .before .before .before .before .before .before .before .before .before .pre .taken)) _ (c .before .before .before .before .before .before .before .before .cone-work-len .ensures)
+    needed-fits (k .shape) (k .c .now) (slices (k .a1 .now) (k .a2 .now)) (k .b .now) list (k .par) (k .work .now) (k .cone-work .now) (rw plain (c .before .before .before .before .before .before .before .before .before .before .before .before .before .before .before .before .before .before .before .before .before .before .pre .taken)) _ (c .before .before .before .before .before .before .before .before .cone-work-len .ensures)
 
 run-in-requires : tie.Need-run-in-requires
 run-in-requires c κs =
-    let k = c .before .before .before .before .before .before .before .before .before .before .before .before .before .before .before .before .before .before .before .before .before .before .args in
-    let t = c .before .before .before .before .before .before .before .before .before .before .before .before .before .before .before .before .before .before .before .before .before .before .pre .taken in
-    let plain = front-is-plain (k .words .now) _ (c .before .before .before .before .before .before .before .before .before .before .before .before .before .before .before .before .before .before .before .before .before .before .pre .few-words) _ _ (c .before .before .before .before .before .before .before .before .before .before .before .before .before .flatten .ensures) _ (c .before .before .before .before .before .before .before .before .before .before .before .count-of .ensures) in
-    let list = take (c .before .before .before .before .before .before .before .before .before .before .before .count-of .result) (c .before .before .before .before .before .before .before .before .before .before .before .before .before .flatten .last .1 .0) in
-    (lent (k .shape) (k .c .now) (slices (k .a1 .now) (k .a2 .now)) (k .b .now) list (k .par) (k .work .now) (k .cone-work .now) (rw plain t) _ (c .before .before .before .before .before .before .before .before .before .cone-work-len .ensures), at-zero (k .shape) (t .ready .operators .m-within) (t .ready .operators .n-within) (3 * limit + 1) (2 * limit + 1) refl refl)
+    let k = c .before .before .before .before .before .before .before .before .before .before .before .before .before .before .before .before .before .before .before .before .before .before .before .before .args in
+    let t = c .before .before .before .before .before .before .before .before .before .before .before .before .before .before .before .before .before .before .before .before .before .before .before .before .pre .taken in
+    let plain = front-is-plain (k .words .now) _ (c .before .before .before .before .before .before .before .before .before .before .before .before .before .before .before .before .before .before .before .before .before .before .before .before .pre .few-words) _ _ (c .before .before .before .before .before .before .before .before .before .before .before .before .before .before .flatten .ensures) _ (c .before .before .before .before .before .before .before .before .before .before .before .before .count-of .ensures) in
+    let list = take (c .before .before .before .before .before .before .before .before .before .before .before .before .count-of .result) (c .before .before .before .before .before .before .before .before .before .before .before .before .before .before .flatten .last .1 .0) in
+    (lent (k .shape) (k .c .now) (slices (k .a1 .now) (k .a2 .now)) (k .b .now) list (k .par) (k .work .now) (k .cone-work .now) (rw plain t) _ (c .before .before .before .before .before .before .before .before .before .before .cone-work-len .ensures), at-zero (k .shape) (t .ready .operators .m-within) (t .ready .operators .n-within) (3 * limit + 1) (2 * limit + 1) refl refl)
 
 same-length : tie.Need-same-length
 same-length c = search needs
@@ -138,13 +138,16 @@ same-length c = search needs
 same-length-2 : tie.Need-same-length-2
 same-length-2 c = search needs
 
+same-length-3 : tie.Need-same-length-3
+same-length-3 c = search needs
+
 returns : tie.Need-returns
 returns c =
-    let k = c .before .before .before .before .before .before .before .before .before .before .before .before .before .before .before .before .before .before .before .before .before .before .before .before .before .before .before .before .before .before .before .before .before .args in
-    let plain = front-is-plain (k .words .now) _ (c .before .before .before .before .before .before .before .before .before .before .before .before .before .before .before .before .before .before .before .before .before .before .before .before .before .before .before .before .before .before .before .before .before .pre .few-words) _ _ (c .before .before .before .before .before .before .before .before .before .before .before .before .before .before .before .before .before .before .before .before .before .before .before .before .flatten .ensures) _ (c .before .before .before .before .before .before .before .before .before .before .before .before .before .before .before .before .before .before .before .before .before .before .count-of .ensures) in
-    let list = take (c .before .before .before .before .before .before .before .before .before .before .before .before .before .before .before .before .before .before .before .before .before .before .count-of .result) (c .before .before .before .before .before .before .before .before .before .before .before .before .before .before .before .before .before .before .before .before .before .before .before .before .flatten .last .1 .0) in
+    let k = c .before .before .before .before .before .before .before .before .before .before .before .before .before .before .before .before .before .before .before .before .before .before .before .before .before .before .before .before .before .before .before .before .before .before .before .before .before .args in
+    let plain = front-is-plain (k .words .now) _ (c .before .before .before .before .before .before .before .before .before .before .before .before .before .before .before .before .before .before .before .before .before .before .before .before .before .before .before .before .before .before .before .before .before .before .before .before .before .pre .few-words) _ _ (c .before .before .before .before .before .before .before .before .before .before .before .before .before .before .before .before .before .before .before .before .before .before .before .before .before .before .before .flatten .ensures) _ (c .before .before .before .before .before .before .before .before .before .before .before .before .before .before .before .before .before .before .before .before .before .before .before .before .before .count-of .ensures) in
+    let list = take (c .before .before .before .before .before .before .before .before .before .before .before .before .before .before .before .before .before .before .before .before .before .before .before .before .before .count-of .result) (c .before .before .before .before .before .before .before .before .before .before .before .before .before .before .before .before .before .before .before .before .before .before .before .before .before .before .before .flatten .last .1 .0) in
     let p = problemIn (k .shape) (k .c .now) (slices (k .a1 .now) (k .a2 .now)) (k .b .now) list (k .par) in
-    rw plain at (left-as p (k .work .now) (k .cone-work .now) _ (c .before .before .before .before .before .before .before .before .before .before .before .before .before .before .before .before .before .before .before .before .cone-work-len .ensures) _ _ _ (c .before .before .before .before .before .before .before .before .before .before .run-in .ensures))
+    rw plain at (left-as p (k .work .now) (k .cone-work .now) (k .log .now) _ (c .before .before .before .before .before .before .before .before .before .before .before .before .before .before .before .before .before .before .before .before .before .before .before .cone-work-len .ensures) _ _ _ _ (c .before .before .before .before .before .before .before .before .before .before .before .before .run-in .ensures))
 
 pub accepted-spec : {M : Type 1} → statement M
 accepted-spec =
@@ -187,4 +190,5 @@ accepted-spec =
     run-in-requires
     same-length
     same-length-2
+    same-length-3
     returns)

@@ -1,34 +1,14 @@
--- `solver::entry::solve_split` meets its contract: turned away by the check, or run as the problem is read.
+-- `solver::entry::solve_split` meets its contract: it is the run with an empty progress record.
 use borrow.Author.Needs.{needs}
-use Rattle.rules.specs.Split.{splitOf}
-use Rattle.solver.proofs.Outcomes.{split-handed, split-turned-away, split-went-through}
+use Rattle.rules.proofs.LoggedRuns.{split-logged-outcome-is-the-plain}
 use Rattle.solver.proofs.entry.solve_split.Statement.{statement}
 use Rattle.solver.proofs.entry.solve_split.Tie as tie
 
-check-split-requires : tie.Need-check-split-requires
-check-split-requires c κs = search needs
+slice-aggregate-solve-split-logged : tie.Need-slice-aggregate-solve-split-logged
+slice-aggregate-solve-split-logged c = search needs
 
-enum-known-found : tie.Need-enum-known-found
-enum-known-found c = search needs
-
-turned-away-requires : tie.Need-turned-away-requires
-turned-away-requires c κs = search needs
-
-enum-told : tie.Need-enum-told
-enum-told c = search needs
-
-read-eps-requires : tie.Need-read-eps-requires
-read-eps-requires c κs = search needs
-
-accepted-requires : tie.Need-accepted-requires
-accepted-requires c κs =
-    let k = c .before .before .before .before .before .before .before .before .before .before .before .before .before .args in
-    split-handed (k .rows .0) (k .cols .0) (k .first .0) (k .c .now) (k .factory .now) (k .lesson .now) (k .b .now) (k .words .now) (k .par) (k .work .now) (k .cone-work .now) _ (c .before .before .before .before .before .check-split .ensures) (c .before .before .before .enum-told .given .1) _ (c .before .before .read-eps .ensures)
-
-returns : tie.Need-returns
-returns c =
-    let k = c .before .before .before .before .before .before .before .before .before .before .before .before .args in
-    split-turned-away (splitOf (k .rows .0) (k .cols .0) (k .first .0) (k .c .now) (k .factory .now) (k .lesson .now) (k .b .now) (k .words .now) (k .par)) (k .work .now) (k .cone-work .now) _ _ (c .before .before .before .before .check-split .ensures) (c .before .before .found .given .1) _ (c .turned-away .ensures)
+solve-split-logged-requires : tie.Need-solve-split-logged-requires
+solve-split-logged-requires c κs = search needs
 
 same-length : tie.Need-same-length
 same-length c = search needs
@@ -36,22 +16,15 @@ same-length c = search needs
 same-length-2 : tie.Need-same-length-2
 same-length-2 c = search needs
 
-returns-2 : tie.Need-returns-2
-returns-2 c =
-    let k = c .before .before .before .before .before .before .before .before .before .before .before .before .before .before .before .before .before .before .args in
-    split-went-through (k .rows .0) (k .cols .0) (k .first .0) (k .c .now) (k .factory .now) (k .lesson .now) (k .b .now) (k .words .now) (k .par) (k .work .now) (k .cone-work .now) _ (c .before .before .before .before .before .before .before .before .before .before .check-split .ensures) (c .before .before .before .before .before .before .before .before .enum-told .given .1) _ (c .before .before .before .before .before .before .before .read-eps .ensures) _ _ _ (c .before .before .before .before .accepted .ensures)
+returns : tie.Need-returns
+returns c = split-logged-outcome-is-the-plain _ _ _ _ _ _ _ _ (c .before .before .before .before .before .before .solve-split-logged .ensures)
 
 pub solve-split-spec : {M : Type 1} → statement M
 solve-split-spec =
     tie.close
     (tie.spec
-    check-split-requires
-    enum-known-found
-    turned-away-requires
-    enum-told
-    read-eps-requires
-    accepted-requires
-    returns
+    slice-aggregate-solve-split-logged
+    solve-split-logged-requires
     same-length
     same-length-2
-    returns-2)
+    returns)

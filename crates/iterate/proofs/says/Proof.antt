@@ -1,8 +1,8 @@
--- `whole_step::says` meets its contract.
+-- `iterate::says` meets its contract.
 use mathlib.Core.Path.{_∙_}
 use borrow.Author.Needs.{needs}
-use Rattle.whole_step.proofs.says.Statement.{statement}
-use Rattle.whole_step.proofs.says.Tie as tie
+use Rattle.iterate.proofs.says.Statement.{statement}
+use Rattle.iterate.proofs.says.Tie as tie
 
 enum-known-found : tie.Need-enum-known-found
 enum-known-found c = search needs

@@ -27,7 +27,7 @@ use Rattle.rules.specs.Groups.{plainWords}
 use Rattle.rules.specs.Parameters.{oneOver, paramOf, withEpsZero, defaults}
 use Rattle.rules.specs.Outcome.{turned-away, onPaper}
 use Rattle.rules.specs.Problem.{Problem}
-use Rattle.rules.specs.Prepare.{frNorm, prepared}
+use Rattle.rules.specs.Prepare.{frNormBy, prepared}
 use Rattle.rules.specs.Product.{block}
 use Rattle.rules.specs.Refusals.{tooLarge, solved, turnedAway}
 use Rattle.rules.specs.Run.{WholeStep}
@@ -165,9 +165,9 @@ table =
     ∷ (transOpped two-by-two (whole 1) dense (pair (whole 1) (whole 1)) +0 (pair +0 +0) comes-to pair (whole 3) (whole 7))
     ∷ (absaddedCols symmetric packed (pair +0 +0) comes-to pair (whole 3) (whole 5))
     ∷ (absaddedRows symmetric packed (pair +0 +0) comes-to pair (whole 3) (whole 5))
-    ∷ (projSOC (triple +0 (whole 3) (whole 4)) comes-to triple (f64 0x4004_0000_0000_0000) (f64 0x3ff8_0000_0000_0000) (whole 2))
-    ∷ (projSOC (triple (whole 5) (whole 3) (whole 4)) comes-to triple (whole 5) (whole 3) (whole 4))
-    ∷ (projSOC (triple (minus 5) (minus 3) (whole 4)) comes-to triple +0 −0 +0)
+    ∷ (projSOC 1 (triple +0 (whole 3) (whole 4)) comes-to triple (f64 0x4004_0000_0000_0000) (f64 0x3ff8_0000_0000_0000) (whole 2))
+    ∷ (projSOC 1 (triple (whole 5) (whole 3) (whole 4)) comes-to triple (whole 5) (whole 3) (whole 4))
+    ∷ (projSOC 1 (triple (minus 5) (minus 3) (whole 4)) comes-to triple +0 −0 +0)
     ∷ (solved byDefault (held 6) [] .answer comes-to answered (Converged +0 +0 +0) 1 0)
     ∷ (solved (empty (epsZero0 (defaults 1 64))) (held 6) [] .answer comes-to answered (ExcessIterUnscaled (inf false) (inf false)) 1 0)
     ∷ (solved byDefault (held 5) [] comes-to turnedAway WorkShortage (held 5) [])
@@ -206,8 +206,8 @@ table =
     ∷ (norm (pair largest largest) comes-to inf false)
     ∷ (norm (pair 10^200 (inf true)) comes-to inf false)
     ∷ (norm (pair 10^200 nan) comes-to nan)
-    ∷ (projSOC (triple +0 (3 times-2^ 601) (1 times-2^ 603)) comes-to triple (5 times-2^ 600) (3 times-2^ 600) (1 times-2^ 602))
-    ∷ (frNorm (10^200 ∷ []) comes-to inf false)
+    ∷ (projSOC 1 (triple +0 (3 times-2^ 601) (1 times-2^ 603)) comes-to triple (5 times-2^ 600) (3 times-2^ 600) (1 times-2^ 602))
+    ∷ (frNormBy 1 (10^200 ∷ []) comes-to inf false)
     ∷ (solved unmet (held 22) [] .answer comes-to answered (Converged +0 +0 +0) 1 0)
     ∷ (take 1 (solved unmet (held 22) [] .work) comes-to (+0 ∷ []))
     -- nor these, but request (x): steps 1, 4 and 7 are due with a period of 3, none with 0, and the first with the largest; what a row is; a second one that does not fit whole, and one

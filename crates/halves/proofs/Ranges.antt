@@ -6,9 +6,10 @@ use mathlib.Core.List.{List}
 use lib.Ieee.{Float, nan}
 use lib.ListN.{length, take, drop}
 use lib.Seq.{getD-take, getD-drop}
-use Rattle.rules.specs.Arithmetic.{_+ᶠ_, at}
+use Rattle.rules.specs.Arithmetic.{_+ᶠ_, at, each}
 use Rattle.rules.specs.Editions.{sumByHalves}
 use Rattle.rules.specs.Step.{part}
+use Rattle.rules.proofs.Arithmetic.{each-length, each-at}
 use Rattle.rules.proofs.Editions.{halves-same, more-by-halves}
 use Rattle.rules.proofs.Parts.{part-length}
 
@@ -36,3 +37,10 @@ two-halves term xs {n} {half} all is some a b =
 
     zero-add : (k : ℕ) → 0 + k ≡ k
     zero-add k = omega arith
+
+-- terms that were put down one by one
+pub sum-of-terms : (f : ℕ → Float) (old new : List Float) {n : ℕ} {s : Float} → s ≡ sumByHalves (length new) (at new) → new ≡ each (λ k v. f k) old → length old ≡ n → s ≡ sumByHalves n f
+sum-of-terms f old new {n} e put long =
+    let same : length new ≡ n = ap length put ∙ each-length (λ k v. f k) old ∙ long in
+    e ∙ ap (λ k. sumByHalves k (at new)) same
+    ∙ halves-same (at new) f n (λ k l. ap (λ (t : List Float). at t k) put ∙ each-at (λ k v. f k) old k (omega (arith, long, l)))

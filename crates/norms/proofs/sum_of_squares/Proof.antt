@@ -1,23 +1,23 @@
+-- `norms::sum_of_squares` meets its contract.
+use Prim.Native.Nat.{_-_}
+use mathlib.Core.Path.{_≡_, refl, sym, _∙_}
 use borrow.Author.Needs.{needs}
-use native.Mathlib.Omega.{arith}
-use Prim.Native.Nat.{ℕ, _+_, _-_, _*_, _≤_, _<_}
-use mathlib.Core.Path.{_≡_, refl, sym, ap, _∙_}
-use lib.ListN.{length, getD, set, length-set}
+use lib.ListN.{length}
+use Rattle.rules.specs.Arithmetic.{at}
+use Rattle.rules.proofs.Arithmetic.{Reached, reached-none, reached-more, reached-all}
+use Rattle.norms.specs.Squares.{squareOf}
+use Rattle.halves.proofs.Ranges.{sum-of-terms}
 use Rattle.norms.proofs.sum_of_squares.Statement.{statement}
 use Rattle.norms.proofs.sum_of_squares.Tie as tie
-use Rattle.norms.proofs.sum_of_squares.Reads as reads
-use Rattle.norms.proofs.sum_of_squares.Lts as lts
-use Rattle.halves.proofs.sum_by_halves.Reads as sum-by-halves-reads
-use Rattle.norms.proofs.square.Reads as square-reads
 
 abbrev Inv-loop : tie.InvT-loop
-Inv-loop smaller x terms₀ k₀ k-end terms k = ?
+Inv-loop smaller x terms₀ k₀ k-end terms k = Reached (λ j v. squareOf smaller (at x j)) k terms₀ terms × (k-end ≡ length terms₀)
 
 abbrev μ-loop : tie.MeasureT-loop
-μ-loop smaller x terms₀ k₀ k-end terms k = ?
+μ-loop smaller x terms₀ k₀ k-end terms k = length terms₀ - k
 
 loop-holds : tie.Need-loop-holds Inv-loop μ-loop
-loop-holds c = search needs
+loop-holds c = (reached-none _ _, refl)
 
 mul-square : tie.Need-mul-square Inv-loop μ-loop
 mul-square c = search needs
@@ -41,7 +41,7 @@ loop-less : tie.Need-loop-less Inv-loop μ-loop
 loop-less c = search needs
 
 loop-again : tie.Need-loop-again Inv-loop μ-loop
-loop-again c = search needs
+loop-again c = (rw (c .square .ensures) (reached-more (c .before .before .before .loop .inv .0) (search needs)), search needs)
 
 sum-by-halves-requires : tie.Need-sum-by-halves-requires Inv-loop μ-loop
 sum-by-halves-requires c κs = search needs
@@ -50,7 +50,8 @@ same-length : tie.Need-same-length Inv-loop μ-loop
 same-length c = search needs
 
 returns : tie.Need-returns Inv-loop μ-loop
-returns c = search needs
+returns c =
+    sum-of-terms (λ j. squareOf (c .before .before .before .before .before .before .args .smaller) (at (c .before .before .before .before .before .before .args .x .now) j)) (c .before .before .before .before .before .before .args .terms .now) _ (c .sum-by-halves .ensures) (reached-all (c .before .before .before .loop .inv .0) (search needs)) (c .before .before .before .before .before .before .pre)
 
 pub sum-of-squares-spec : {M : Type 1} → statement M
 sum-of-squares-spec =

@@ -82,6 +82,7 @@ impl Words<'_> {
             a: self.vector(),
             b: self.vector(),
             twice: storage == 2,
+            edition: 1,
             work: self.size(),
             cone_work: self.size(),
             fill: self.number(),

@@ -158,11 +158,19 @@ fn replay_cuts(
     if !runs::is_dense(record) {
         return true;
     }
-    replay_cut(record, edition, 0, a, agree, differ)
-        && replay_cut(record, edition, 1, a, agree, differ)
-        && replay_cut(record, edition, 2, a, agree, differ)
-        && replay_cut(record, edition, 3, a, agree, differ)
-        && replay_cut(record, edition, 4, a, agree, differ)
+    if !replay_cut(record, edition, 0, a, agree, differ) {
+        return false;
+    }
+    if !replay_cut(record, edition, 1, a, agree, differ) {
+        return false;
+    }
+    if !replay_cut(record, edition, 2, a, agree, differ) {
+        return false;
+    }
+    if !replay_cut(record, edition, 3, a, agree, differ) {
+        return false;
+    }
+    replay_cut(record, edition, 4, a, agree, differ)
 }
 
 fn replay_cut(

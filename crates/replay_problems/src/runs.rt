@@ -47,13 +47,7 @@ pub fn replay_logged(record: &[u8], log: &[u8], cut: Cut, a_room: &mut [f64]) ->
     replay_with(record, log, par, cut, a_room)
 }
 
-fn replay_with(
-    record: &[u8],
-    log: &[u8],
-    par: SolverParam,
-    cut: Cut,
-    a_room: &mut [f64],
-) -> Found {
+fn replay_with(record: &[u8], log: &[u8], par: SolverParam, cut: Cut, a_room: &mut [f64]) -> Found {
     let blocks = record::size(record, BLOCKS_AT);
     if blocks > room::WORD_ROOM {
         return Found::Unknown;

@@ -22,7 +22,18 @@ struct Entry {
     most: usize,
     k: u64,
     words: usize,
+    /// The first word of the answer that is another in edition one.
+    unlike: Option<usize>,
 }
+
+/// Words of an answer by what they are: each up to and without its number.
+const PARTS: [(usize, &str); 5] = [
+    (1, "another ending"),
+    (2, "the same at another step"),
+    (3, "the same after other rotations"),
+    (6, "the same with other criteria"),
+    (usize::MAX, "the same but for places of the buffers"),
+];
 
 impl Entry {
     fn has(&self, difference: u64) -> bool {
@@ -56,7 +67,13 @@ impl Records {
             told,
             answer,
         } = judged(p);
-        if answer.is_some() && judged(&in_edition(p, 1)).told != told {
+        let mut unlike = None;
+        if answer.is_some() {
+            let one = judged(&in_edition(p, 1)).told;
+            unlike = one.iter().zip(&told).position(|(one, two)| one != two);
+            assert_eq!(unlike.is_some(), one != told);
+        }
+        if unlike.is_some() {
             tag += UNLIKE_ONE;
         }
         let mut record = vec![u64::from(p.edition)];
@@ -71,6 +88,7 @@ impl Records {
             most: p.m.max(p.n),
             k: told[1],
             words: record.len(),
+            unlike,
         });
         self.words.extend(record);
     }
@@ -125,6 +143,15 @@ pub fn make(seed: u64, path: &Path) -> std::io::Result<()> {
         );
         println!("         {name}: {unlike} of {met}");
     }
+    println!("beside edition one:");
+    let mut from = 0;
+    for (to, name) in PARTS {
+        all.print(name, |e| {
+            e.unlike.is_some_and(|at| (from..to).contains(&at))
+        });
+        from = to;
+    }
+    println!("by size:");
     all.print("packed", |e| two(e) && e.packed);
     all.print("a side of 64 or more", |e| two(e) && e.most >= 64);
     all.print("a side of 200 or more", |e| two(e) && e.most >= 200);

@@ -5,6 +5,7 @@ use rules::MatType;
 use rules::Rows;
 ghost use Prim.Native.Nat.{_≤_};
 ghost use mathlib.Core.Path.{_≡_};
+ghost use mathlib.Core.List.{_++_};
 ghost use Rattle.rules.specs.Limits.{limit};
 ghost use Rattle.rules.specs.Matrices.{nRow, nCol, storedLength, storedFits, transformFits};
 ghost use Rattle.rules.specs.Matrices as rules;
@@ -89,6 +90,38 @@ pub fn transform_fits(transpose: bool, t: MatType, mat: &[f64], x: &[f64], y: &[
     ensures { λ r. ⌜ r ≡ transformFits transpose t (now (mat .entry)) (now (x .entry)) (now (y .entry)) ⌝ }
 {
     if !stored_fits(t, mat) {
+        return false;
+    }
+    if x.len() != width(transpose, t) {
+        return false;
+    }
+    y.len() == height(transpose, t)
+}
+
+// The same of a matrix whose numbers stand in two slices, one after the other.
+pub fn joined_fits(
+    transpose: bool,
+    t: MatType,
+    a1: &[f64],
+    a2: &[f64],
+    x: &[f64],
+    y: &[f64],
+) -> bool
+    ensures { λ r. ⌜
+        r ≡ transformFits transpose t (now (a1 .entry) ++ now (a2 .entry)) (now (x .entry)) (now (y .entry))
+        ⌝ }
+{
+    if n_row(t) > LIMIT {
+        return false;
+    }
+    if n_col(t) > LIMIT {
+        return false;
+    }
+    let all = stored_length(t);
+    if a1.len() > all {
+        return false;
+    }
+    if a2.len() != all - a1.len() {
         return false;
     }
     if x.len() != width(transpose, t) {

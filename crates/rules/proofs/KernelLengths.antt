@@ -59,11 +59,11 @@ either-length false v w n h k = k
 
 pub opped-length : (edition : ℕ) (t : MatType) (alpha : Float) (mat x : List Float) (beta : Float) (y : List Float) → length (oppedBy edition t alpha mat x beta y) ≡ length y
 unfolding oppedBy
-opped-length edition t alpha mat x beta y = either-length (isEmpty t) _ _ (length y) (scaled-length beta y) (transformed-length edition alpha _ x beta y)
+opped-length edition t alpha mat x beta y = either-length (isEmpty t) _ _ (length y) (scaled-length beta y) (simp transformed-length)
 
 pub transOpped-length : (edition : ℕ) (t : MatType) (alpha : Float) (mat x : List Float) (beta : Float) (y : List Float) → length (transOppedBy edition t alpha mat x beta y) ≡ length y
 unfolding transOppedBy
-transOpped-length edition t alpha mat x beta y = either-length (isEmpty t) _ _ (length y) (scaled-length beta y) (transformed-length edition alpha _ x beta y)
+transOpped-length edition t alpha mat x beta y = either-length (isEmpty t) _ _ (length y) (scaled-length beta y) (simp transformed-length)
 
 pub absaddedCols-length : (t : MatType) (mat y : List Float) → length (absaddedCols t mat y) ≡ length y
 unfolding absaddedCols

@@ -6,6 +6,7 @@ pub mod RootPatterns
 pub mod EitherOrder
 pub mod Arithmetic
 pub mod Editions
+pub mod WholeSums
 pub mod Triangle
 pub mod Columns
 pub mod Jacobi

@@ -1,10 +1,10 @@
--- Document 01, "Worked by hand": the cases marked P, as rows of one table, with the cone word that 01 names and requests (ii), (iv), (vii), (viii), (ix) and (x) of document 02. `proofs/WorkedByHand.antt` proves the one claim that every row holds.
+-- Document 01, "Worked by hand": the cases marked P, as rows of one table, with the cone word that 01 names and requests (ii), (iv), (vii), (viii), (ix), (x) and (xi) of document 02. `proofs/WorkedByHand.antt` proves the one claim that every row holds.
 use Prim.Native.Nat.{ℕ, zero, suc, _+_}
 use mathlib.Core.Path.{_≡_}
 use mathlib.Core.List.{List, [], _∷_}
 use lib.IntN.{pos, negsuc}
 use mathlib.Core.Bool.{true, false}
-use lib.ListN.{replicate, take}
+use lib.ListN.{length, replicate, take}
 use lib.Ieee.{Float, nan, inf, fin, binary64, ofBits, ofInt, neg}
 use Rattle.rules.specs.declared.MatType.{MatType}
 use Rattle.rules.specs.declared.MatType.the-variants.{General, SymPack}
@@ -17,14 +17,15 @@ use Rattle.rules.specs.declared.Criteria.the-variants.{Conv, Inf}
 use Rattle.rules.specs.declared.Logged.{Logged}
 use Rattle.rules.specs.declared.Ending.{Ending}
 use Rattle.rules.specs.declared.Ending.the-variants.{Converged, ExcessIterUnscaled, BadParam, TooLarge, BadCone, WorkShortage}
-use Rattle.rules.specs.Arithmetic.{+0}
+use Rattle.rules.specs.Arithmetic.{+0, at}
+use Rattle.rules.specs.Editions.{sumBy}
 use Rattle.rules.specs.Helpers.{larger, smaller}
-use Rattle.rules.specs.Vectors.{norm}
-use Rattle.rules.specs.Matrices.{opped, transOpped, absaddedRows, absaddedCols}
+use Rattle.rules.specs.Vectors.{norm, normBy}
+use Rattle.rules.specs.Matrices.{opped, transOpped, transOppedBy, absaddedRows, absaddedCols}
 use Rattle.rules.specs.Projections.{projSOC}
 use Rattle.rules.specs.Blocks.{readWord}
 use Rattle.rules.specs.Groups.{plainWords}
-use Rattle.rules.specs.Parameters.{oneOver, paramOf, withEpsZero, defaults}
+use Rattle.rules.specs.Parameters.{oneOver, paramOf, withEpsZero, withEdition, defaults}
 use Rattle.rules.specs.Outcome.{turned-away, onPaper}
 use Rattle.rules.specs.Problem.{Problem}
 use Rattle.rules.specs.Prepare.{frNormBy, prepared}
@@ -152,6 +153,20 @@ oneToFour = rowOf (whole 1) (Conv (whole 2) (whole 3) (whole 4))
 abbrev failing : WholeStep
 failing = record { state = prepared byDefault; rotations = 0; failure = block 0; criteria = Conv +0 +0 +0 }
 
+-- the sum of a list by an edition; a number of 1 row and 1 column; and n = m = 0 by default, but for the edition
+abbrev summed : ℕ → List Float → Float
+summed edition xs = sumBy edition (length xs) (at xs)
+
+abbrev one-by-one : MatType
+one-by-one = General (record { 0 = 1 }) (record { 0 = 1 })
+
+abbrev ofEdition : ℕ → Problem
+ofEdition edition = empty (withEdition (defaults 1_000_000 64) edition)
+
+-- 2^512 − 2^459 and seven times 3 * 2^483, whose squares' sum is infinite in edition two alone
+abbrev nearLargest : List Float
+nearLargest = 9_007_199_254_740_991 times-2^ 459 ∷ replicate 7 (3 times-2^ 483)
+
 abbrev pub table : List Row
 table =
     (root binary64 (whole 4) comes-to whole 2)
@@ -230,4 +245,20 @@ table =
     ∷ (loggedSolved (withPeriod 1 byDefault) (held 5) [] (held 4) comes-to withLog (turnedAway WorkShortage (held 5) []) (untouched (held 4)))
     ∷ (loggedSolved (withPeriod 3 (empty (epsZero0 (defaults 7 64)))) (held 6) [] (held 9) .answer comes-to loggedAnswer (answered (ExcessIterUnscaled (inf false) (inf false)) 7 0) 2 1)
     ∷ (loggedSolved (withPeriod 3 (empty (epsZero0 (defaults 7 64)))) (held 6) [] (held 9) .log comes-to (+0 ∷ inf false ∷ inf false ∷ +0 ∷ +0 ∷ inf false ∷ inf false ∷ +0 ∷ held 1))
+    -- nor these, but request (xi): sums of none, of −0, of three numbers and of five, and what edition one has of two of these; a product of −0; norms, the last two of numbers
+    -- whose plain sum is infinite in edition two alone; the editions that are none; and the empty problem in edition two
+    ∷ (summed 2 [] comes-to +0)
+    ∷ (summed 2 (−0 ∷ []) comes-to −0)
+    ∷ (summed 1 (−0 ∷ []) comes-to +0)
+    ∷ (summed 2 (triple (1 times-2^ 53) (whole 1) (whole 1)) comes-to 4_503_599_627_370_497 times-2^ 1)
+    ∷ (summed 1 (triple (1 times-2^ 53) (whole 1) (whole 1)) comes-to 1 times-2^ 53)
+    ∷ (summed 2 (whole 1 ∷ whole 1 ∷ 1 times-2^ 53 ∷ whole 1 ∷ whole 1 ∷ []) comes-to 2_251_799_813_685_249 times-2^ 2)
+    ∷ (transOppedBy 2 one-by-one (whole 1) (−0 ∷ []) (whole 1 ∷ []) +0 (−0 ∷ []) comes-to (−0 ∷ []))
+    ∷ (transOppedBy 1 one-by-one (whole 1) (−0 ∷ []) (whole 1 ∷ []) +0 (−0 ∷ []) comes-to (+0 ∷ []))
+    ∷ (projSOC 2 (triple +0 (3 times-2^ 601) (1 times-2^ 603)) comes-to triple (5 times-2^ 600) (3 times-2^ 600) (1 times-2^ 602))
+    ∷ (normBy 2 nearLargest comes-to 1 times-2^ 512)
+    ∷ (normBy 1 nearLargest comes-to 9_007_199_254_740_991 times-2^ 459)
+    ∷ (solved (ofEdition 0) (held 5) [] comes-to turnedAway BadParam (held 5) [])
+    ∷ (solved (ofEdition 3) (held 6) [] comes-to turnedAway BadParam (held 6) [])
+    ∷ (solved (ofEdition 2) (held 6) [] .answer comes-to answered (Converged +0 +0 +0) 1 0)
     ∷ []

@@ -383,6 +383,7 @@ fn every_other_reader_is_told() {
         "packed products in order", Products<NotPacked>, Halved, 50;
         "beta of 0 clears", Products<ClearsByZero>, Halved, 20;
         "no norm is scaled", Norms<NoRescue>, Norms<NoRescue>, 50;
+        "no norm of a block is scaled", Halved, Norms<NoRescue>, 1;
         "the sum in order tells whether a norm is scaled", Norms<AsksInOrder>, Norms<AsksInOrder>, 5;
         "a scaled norm is added up in order", Norms<TakesInOrder>, Norms<TakesInOrder>, 8;
         "absolute sums by halves", AlsoAbssum, Halved, 100;

@@ -229,7 +229,15 @@ struct Products {
 
 // Both products are worked out in one place, which each first multiplies by 0: the first multiplies
 // start, the second what the first left.
-fn objectives(edition: u32, shape: Shape, c: &[f64], b: &[f64], alpha: f64, start: f64, x: &[f64]) -> Products
+fn objectives(
+    edition: u32,
+    shape: Shape,
+    c: &[f64],
+    b: &[f64],
+    alpha: f64,
+    start: f64,
+    x: &[f64],
+) -> Products
     requires { ⌜ Stored (problem.column (shape .cols .0)) (now c) ⌝ }
     requires { ⌜ Stored (problem.column (shape .rows .0)) (now b) ⌝ }
     requires { ⌜ LikeX shape (now x) ⌝ }

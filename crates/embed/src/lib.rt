@@ -68,7 +68,18 @@ fn op_all(
     let nm1 = nm + 1;
     op_n(edition, shape, c, a1, a2, b, alpha, x, beta, &mut y[0..n]);
     op_m(edition, shape, c, a1, a2, b, alpha, x, beta, &mut y[n..nm]);
-    op_1(edition, shape, c, a1, a2, b, alpha, x, beta, &mut y[nm..nm1]);
+    op_1(
+        edition,
+        shape,
+        c,
+        a1,
+        a2,
+        b,
+        alpha,
+        x,
+        beta,
+        &mut y[nm..nm1],
+    );
 }
 
 fn op_n(

@@ -69,8 +69,30 @@ fn trans_all(
     let nmm1 = nmm + 1;
     trans_x(edition, shape, c, a1, a2, b, alpha, y, beta, &mut x[0..n]);
     trans_y(edition, shape, c, a1, a2, b, alpha, y, beta, &mut x[n..nm]);
-    trans_s(edition, shape, c, a1, a2, b, alpha, y, beta, &mut x[nm..nmm]);
-    trans_tau(edition, shape, c, a1, a2, b, alpha, y, beta, &mut x[nmm..nmm1]);
+    trans_s(
+        edition,
+        shape,
+        c,
+        a1,
+        a2,
+        b,
+        alpha,
+        y,
+        beta,
+        &mut x[nm..nmm],
+    );
+    trans_tau(
+        edition,
+        shape,
+        c,
+        a1,
+        a2,
+        b,
+        alpha,
+        y,
+        beta,
+        &mut x[nmm..nmm1],
+    );
 }
 
 fn trans_x(

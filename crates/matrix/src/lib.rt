@@ -111,10 +111,10 @@ pub fn joined_fits(
         r ≡ transformFits transpose t (now (a1 .entry) ++ now (a2 .entry)) (now (x .entry)) (now (y .entry))
         ⌝ }
 {
-    if n_row(t) > LIMIT {
+    if LIMIT < n_row(t) {
         return false;
     }
-    if n_col(t) > LIMIT {
+    if LIMIT < n_col(t) {
         return false;
     }
     let all = stored_length(t);
@@ -124,10 +124,13 @@ pub fn joined_fits(
     if a2.len() != all - a1.len() {
         return false;
     }
-    if x.len() != width(transpose, t) {
+    if width(transpose, t) != x.len() {
         return false;
     }
-    y.len() == height(transpose, t)
+    if height(transpose, t) != y.len() {
+        return false;
+    }
+    true
 }
 
 // Whether rows and columns are within the limits, and a dense matrix stands in two slices: the first columns in one, the rest in the other.

@@ -40,7 +40,15 @@ pub(crate) fn start(
 }
 
 // The norms of b, then c, worked out at the front of x.
-fn calc_norms(edition: u32, shape: Shape, c: &[f64], a1: &[f64], a2: &[f64], b: &[f64], x: &mut [f64]) -> Norms
+fn calc_norms(
+    edition: u32,
+    shape: Shape,
+    c: &[f64],
+    a1: &[f64],
+    a2: &[f64],
+    b: &[f64],
+    x: &mut [f64],
+) -> Norms
     requires { ⌜ Fits shape (now c) (slices (now a1) (now a2)) (now b) ⌝ }
     requires { ⌜ LikeX shape (now x) ⌝ }
     ensures x_left { λ _. ⌜

@@ -142,11 +142,12 @@ impl SolverParam {
     pub fn with_edition(par: SolverParam, number: u32) -> SolverParam
         ensures { λ r. ⌜ r ≡ withEdition par number ⌝ }
     {
+        let zero = par.eps_zero;
         SolverParam::made(
             par.max_iter,
             par.eps_acc,
             par.eps_inf,
-            par.eps_zero,
+            zero,
             par.sweep_limit,
             par.log_period,
             number,

@@ -12,7 +12,7 @@ use Rattle.halved_transform.proofs.lines.Statement.{statement}
 use Rattle.halved_transform.proofs.lines.Tie as tie
 
 abbrev Inv-loop : tie.InvT-loop
-Inv-loop transpose t alpha a1 a2 x beta terms₀ y₀ r₀ r-end terms y r = 
+Inv-loop transpose t alpha a1 a2 x beta terms₀ y₀ r₀ r-end terms y r =
     Reached (λ k v. alpha *ᶠ productBy 2 (entries transpose t (a1 ++ a2)) x k +ᶠ beta *ᶠ v) r y₀ y × Stored t (a1 ++ a2) × (length x ≡ width transpose t) × (length y₀ ≡ height transpose t) × (length terms ≡ length x) × (r-end ≡ length y₀)
 
 abbrev μ-loop : tie.MeasureT-loop

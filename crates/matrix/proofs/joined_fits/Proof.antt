@@ -46,7 +46,7 @@ returns-3 c =
     let a2 = c .before .before .before .before .before .before .before .before .before .before .args .a2 .now in
     let rows = rw (c .before .before .before .before .before .n-row .ensures) at (c .before .before .before .before .if1 .left) in
     let cols = rw (c .before .before .before .n-col .ensures) at (c .before .before .if2 .left) in
-    rw (le-leb _ _ rows, le-leb _ _ cols, first-too-long a1 a2 (c .before .stored-length .ensures) (c .if3 .taken))
+    rw (le-leb _ _ rows, le-leb _ _ cols, first-too-long a1 a2 (c .before .stored-length .ensures) (omega (arith, c .if3 .taken)))
 
 sub-if4 : tie.Need-sub-if4
 sub-if4 c = search needs
@@ -68,18 +68,31 @@ returns-5 c =
     let a2 = c .before .before .before .before .before .before .before .before .before .before .before .before .before .args .a2 .now in
     let rows = rw (c .before .before .before .before .before .before .before .before .n-row .ensures) at (c .before .before .before .before .before .before .before .if1 .left) in
     let cols = rw (c .before .before .before .before .before .before .n-col .ensures) at (c .before .before .before .before .before .if2 .left) in
-    rw (le-leb _ _ rows, le-leb _ _ cols, both-fit a1 a2 (c .before .before .before .before .stored-length .ensures) (c .before .before .before .if3 .left) (c .before .before .if4 .left), ne-eqb _ _ (rw (c .before .width .ensures) at (c .if5 .taken)))
+    let other = rw (c .before .width .ensures) at (c .if5 .taken) in
+    rw (le-leb _ _ rows, le-leb _ _ cols, both-fit a1 a2 (c .before .before .before .before .stored-length .ensures) (c .before .before .before .if3 .left) (c .before .before .if4 .left), ne-eqb _ _ (λ e. other (sym e)))
 
 height-requires : tie.Need-height-requires
 height-requires c κs = search needs
 
 returns-6 : tie.Need-returns-6
 returns-6 c =
-    let a1 = c .before .before .before .before .before .before .before .before .before .before .before .before .before .before .args .a1 .now in
-    let a2 = c .before .before .before .before .before .before .before .before .before .before .before .before .before .before .args .a2 .now in
-    let rows = rw (c .before .before .before .before .before .before .before .before .before .n-row .ensures) at (c .before .before .before .before .before .before .before .before .if1 .left) in
-    let cols = rw (c .before .before .before .before .before .before .before .n-col .ensures) at (c .before .before .before .before .before .before .if2 .left) in
-    rw (le-leb _ _ rows, le-leb _ _ cols, both-fit a1 a2 (c .before .before .before .before .before .stored-length .ensures) (c .before .before .before .before .if3 .left) (c .before .before .before .if4 .left), eq-eqb _ _ (rw (c .before .before .width .ensures) at (c .before .if5 .left)), c .height .ensures)
+    let a1 = c .before .before .before .before .before .before .before .before .before .before .before .before .before .before .before .args .a1 .now in
+    let a2 = c .before .before .before .before .before .before .before .before .before .before .before .before .before .before .before .args .a2 .now in
+    let rows = rw (c .before .before .before .before .before .before .before .before .before .before .n-row .ensures) at (c .before .before .before .before .before .before .before .before .before .if1 .left) in
+    let cols = rw (c .before .before .before .before .before .before .before .before .n-col .ensures) at (c .before .before .before .before .before .before .before .if2 .left) in
+    let wide = rw (c .before .before .before .width .ensures) at (c .before .before .if5 .left) in
+    let other = rw (c .before .height .ensures) at (c .if6 .taken) in
+    rw (le-leb _ _ rows, le-leb _ _ cols, both-fit a1 a2 (c .before .before .before .before .before .before .stored-length .ensures) (c .before .before .before .before .before .if3 .left) (c .before .before .before .before .if4 .left), eq-eqb _ _ (sym wide), ne-eqb _ _ (λ e. other (sym e)))
+
+returns-7 : tie.Need-returns-7
+returns-7 c =
+    let a1 = c .before .before .before .before .before .before .before .before .before .before .before .before .before .before .before .args .a1 .now in
+    let a2 = c .before .before .before .before .before .before .before .before .before .before .before .before .before .before .before .args .a2 .now in
+    let rows = rw (c .before .before .before .before .before .before .before .before .before .before .n-row .ensures) at (c .before .before .before .before .before .before .before .before .before .if1 .left) in
+    let cols = rw (c .before .before .before .before .before .before .before .before .n-col .ensures) at (c .before .before .before .before .before .before .before .if2 .left) in
+    let wide = rw (c .before .before .before .width .ensures) at (c .before .before .if5 .left) in
+    let high = rw (c .before .height .ensures) at (c .if6 .left) in
+    rw (le-leb _ _ rows, le-leb _ _ cols, both-fit a1 a2 (c .before .before .before .before .before .before .stored-length .ensures) (c .before .before .before .before .before .if3 .left) (c .before .before .before .before .if4 .left), eq-eqb _ _ (sym wide), eq-eqb _ _ (sym high))
 
 pub joined-fits-spec : {M : Type 1} → statement M
 joined-fits-spec =
@@ -96,4 +109,5 @@ joined-fits-spec =
     width-requires
     returns-5
     height-requires
-    returns-6)
+    returns-6
+    returns-7)

@@ -10,11 +10,13 @@ ghost use lib.ListN.{length};
 ghost use Rattle.rules.specs.Limits.{limit};
 ghost use Rattle.rules.specs.Arithmetic.{at};
 ghost use Rattle.rules.specs.Outcome.{Outcome};
-ghost use Rattle.rules.specs.Matrices.{nRow, nCol, height, width, entries, packedPlace, transformFits, productBy, transformedBy, Stored};
+ghost use Rattle.rules.specs.Matrices.{nRow, nCol, height, width, isEmpty, entries, packedPlace, transformFits, productBy, transformedBy, Stored};
 ghost use Rattle.rules.specs.Matrices as rules;
+ghost use Rattle.halved_transform.specs.Halved.{operatedByHalves};
 
-// y becomes alpha * matrix * x + beta * y, or so with the matrix transposed; its numbers are those of the first slice and then those of the second.
-pub fn transform_by_halves(
+// y becomes alpha * matrix * x + beta * y, or so with the matrix transposed; its numbers are those of the first slice and then those of the second. A matrix
+// with no rows or no columns only scales y by beta.
+pub fn op_by_halves(
     transpose: bool,
     t: MatType,
     alpha: f64,
@@ -27,17 +29,36 @@ pub fn transform_by_halves(
     ensures { λ r. ⌜
         (let mat = now (a1 .entry) ++ now (a2 .entry) in
         Outcome (transformFits transpose t mat (now (x .entry)) (now (y .entry)))
-        (transformedBy 2 alpha (entries transpose t mat) (now (x .entry)) beta (now (y .entry)))
+        (operatedByHalves transpose t alpha mat (now (x .entry)) beta (now (y .entry)))
         (now (y .entry)) r (now (y .exit)))
         ⌝ }
 {
     if !matrix::joined_fits(transpose, t, a1, a2, x, y) {
         return false;
     }
+    if is_empty(t) {
+        linalg::scale(beta, y);
+        return true;
+    }
     let n = x.len();
+    if n <= 64 {
+        let mut few = [0.0; 64];
+        lines(transpose, t, alpha, a1, a2, x, beta, &mut few[0..n], y);
+        return true;
+    }
     let mut terms = [0.0; LIMIT];
     lines(transpose, t, alpha, a1, a2, x, beta, &mut terms[0..n], y);
     true
+}
+
+// Whether there are no rows or no columns.
+fn is_empty(t: MatType) -> bool
+    ensures { λ r. ⌜ r ≡ isEmpty t ⌝ }
+{
+    if matrix::height(false, t) == 0 {
+        return true;
+    }
+    matrix::width(false, t) == 0
 }
 
 // One line after another.

@@ -68,7 +68,7 @@ pub(crate) fn operate(
 }
 
 // Whether there are no rows or no columns.
-pub fn is_empty(t: MatType) -> bool
+pub(crate) fn is_empty(t: MatType) -> bool
     ensures { λ r. ⌜ r ≡ isEmpty t ⌝ }
 {
     if matrix::height(false, t) == 0 {

@@ -1,23 +1,22 @@
 -- Laws of a matrix as an operator, by edition.
 use Prim.Native.Nat.{ℕ}
-use mathlib.Core.Path.{_≡_, refl, sym, _∙_, ap}
+use mathlib.Core.Path.{_≡_}
 use mathlib.Core.Bool.{Bool, true, false, cond, _&&_}
-use mathlib.Core.List.{List, [], _++_, append-nil}
-use borrow.Author.Tests.{ne-eqb, eq-eqb}
+use mathlib.Core.List.{List}
+use borrow.Author.Tests.{ne-eqb}
 use lib.Dec.{eqb}
 use lib.Ieee.{Float}
 use lib.ListN.{length}
 use Rattle.rules.specs.declared.MatType.{MatType}
 use Rattle.rules.specs.declared.Shape.{Shape}
 use Rattle.rules.specs.Outcome.{Outcome}
-use Rattle.rules.specs.Vectors.{scaled}
-use Rattle.rules.specs.Matrices.{entry, entries, transposed, isEmpty, transformFits, transformedBy, oppedBy, transOppedBy}
+use Rattle.rules.specs.Matrices.{transformFits, oppedBy, transOppedBy}
 use Rattle.rules.specs.Problem.{Slices, joined, matrixIn}
 use Rattle.rules.proofs.Matrices.{both-true, fits-if-stored}
 use Rattle.shape.specs.Fitting.{partsFit, Sized}
 use Rattle.shape.proofs.Fitting.{sized-of}
 use Rattle.matop.specs.Operands.{operandsFit}
-use Rattle.matop_by.specs.Halved.{operatedByHalves}
+use Rattle.halved_transform.specs.Halved.{operatedByHalves}
 
 -- ---- another number than 2: edition one's
 
@@ -40,16 +39,6 @@ module _ (edition : ℕ) (two : edition ≡ 2) (t : MatType) (alpha : Float) (ma
   pub trans-op-by-halves : operatedByHalves true t alpha mat x beta y ≡ transOppedBy edition t alpha mat x beta y
   unfolding transOppedBy operatedByHalves
   trans-op-by-halves = rw two
-
-module _ (transpose : Bool) (t : MatType) (alpha : Float) (mat x : List Float) (beta : Float) (y : List Float) where
-  -- "A matrix with no rows or no columns only scales y by beta."
-  pub scales-if-empty : isEmpty t ≡ true → scaled beta y ≡ operatedByHalves transpose t alpha mat x beta y
-  unfolding operatedByHalves
-  scales-if-empty e = rw e
-
-  pub transforms-else : isEmpty t ≡ false → transformedBy 2 alpha (entries transpose t mat) x beta y ≡ operatedByHalves transpose t alpha mat x beta y
-  unfolding operatedByHalves
-  transforms-else e = rw e
 
 -- slices that fit hold the matrix of the shape, with as many numbers in x and y as it asks
 pub operands-joined : (transpose : Bool) (shape : Shape) (a : Slices) (x y : List Float) → operandsFit transpose shape a x y ≡ true → transformFits transpose (matrixIn shape) (joined a) x y ≡ true

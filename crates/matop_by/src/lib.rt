@@ -4,8 +4,7 @@ pub mod split;
 use rules::MatType;
 ghost use mathlib.Core.Path.{_≡_};
 ghost use Rattle.rules.specs.Outcome.{Outcome};
-ghost use Rattle.rules.specs.Matrices.{transformFits, opFits, transOpFits, oppedBy, transOppedBy};
-ghost use Rattle.matop_by.specs.Halved.{operatedByHalves};
+ghost use Rattle.rules.specs.Matrices.{opFits, transOpFits, oppedBy, transOppedBy};
 
 // y becomes alpha * matrix * x + beta * y.
 pub fn op_by(
@@ -26,7 +25,7 @@ pub fn op_by(
     if edition != 2 {
         return matop::op(t, alpha, mat, x, beta, y);
     }
-    by_halves(false, t, alpha, mat, x, beta, y)
+    halved_transform::op_by_halves(false, t, alpha, mat, &mat[..0], x, beta, y)
 }
 
 // y becomes alpha * matrix transposed * x + beta * y.
@@ -48,31 +47,5 @@ pub fn trans_op_by(
     if edition != 2 {
         return matop::trans_op(t, alpha, mat, x, beta, y);
     }
-    by_halves(true, t, alpha, mat, x, beta, y)
-}
-
-// What both are in edition two.
-fn by_halves(
-    transpose: bool,
-    t: MatType,
-    alpha: f64,
-    mat: &[f64],
-    x: &[f64],
-    beta: f64,
-    y: &mut [f64],
-) -> bool
-    ensures { λ r. ⌜
-        Outcome (transformFits transpose t (now (mat .entry)) (now (x .entry)) (now (y .entry)))
-        (operatedByHalves transpose t alpha (now (mat .entry)) (now (x .entry)) beta (now (y .entry)))
-        (now (y .entry)) r (now (y .exit))
-        ⌝ }
-{
-    if matop::is_empty(t) {
-        if !matrix::transform_fits(transpose, t, mat, x, y) {
-            return false;
-        }
-        linalg::scale(beta, y);
-        return true;
-    }
-    halved_transform::transform_by_halves(transpose, t, alpha, mat, &mat[..0], x, beta, y)
+    halved_transform::op_by_halves(true, t, alpha, mat, &mat[..0], x, beta, y)
 }

@@ -6,7 +6,7 @@ ghost use Rattle.rules.specs.Outcome.{Outcome};
 ghost use Rattle.rules.specs.Matrices.{oppedBy, transOppedBy};
 ghost use Rattle.rules.specs.Problem.{slices, joined, matrixIn};
 ghost use Rattle.matop.specs.Operands.{operandsFit};
-ghost use Rattle.matop_by.specs.Halved.{operatedByHalves};
+ghost use Rattle.halved_transform.specs.Halved.{operatedByHalves};
 
 // y becomes alpha * A * x + beta * y.
 pub fn op_by(
@@ -78,10 +78,6 @@ fn by_halves(
         return false;
     }
     let t = shape::matrix_of(shape);
-    if matop::is_empty(t) {
-        linalg::scale(beta, y);
-        return true;
-    }
-    halved_transform::transform_by_halves(transpose, t, alpha, a1, a2, x, beta, y);
+    halved_transform::op_by_halves(transpose, t, alpha, a1, a2, x, beta, y);
     true
 }

@@ -1,4 +1,4 @@
--- What private functions of this crate do, where the rules speak of `op` and of `trans_op`.
+-- A matrix as an operator of edition two: the rules speak of `op` and of `trans_op`, and this of both.
 use mathlib.Core.Bool.{Bool, cond}
 use mathlib.Core.List.{List}
 use lib.Ieee.{Float}

@@ -105,14 +105,7 @@ fn operate(
 }
 
 // Whether A's slices are as the shape says, and x and y have the lengths that its sizes say.
-pub fn operands_fit(
-    transpose: bool,
-    shape: Shape,
-    a1: &[f64],
-    a2: &[f64],
-    x: &[f64],
-    y: &[f64],
-) -> bool
+fn operands_fit(transpose: bool, shape: Shape, a1: &[f64], a2: &[f64], x: &[f64], y: &[f64]) -> bool
     ensures { λ r. ⌜
         r
         ≡ operandsFit transpose shape (slices (now (a1 .entry)) (now (a2 .entry))) (now (x .entry))

@@ -1,19 +1,17 @@
 -- Laws of a matrix as an operator, by edition.
 use Prim.Native.Nat.{ℕ}
 use mathlib.Core.Path.{_≡_}
-use mathlib.Core.Bool.{Bool, true, false, cond, _&&_}
+use mathlib.Core.Bool.{Bool, true, false}
 use mathlib.Core.List.{List}
 use borrow.Author.Tests.{ne-eqb}
-use lib.Dec.{eqb}
 use lib.Ieee.{Float}
-use lib.ListN.{length}
 use Rattle.rules.specs.declared.MatType.{MatType}
 use Rattle.rules.specs.declared.Shape.{Shape}
 use Rattle.rules.specs.Outcome.{Outcome}
 use Rattle.rules.specs.Matrices.{transformFits, oppedBy, transOppedBy}
 use Rattle.rules.specs.Problem.{Slices, joined, matrixIn}
-use Rattle.rules.proofs.Matrices.{both-true, fits-if-stored}
-use Rattle.shape.specs.Fitting.{partsFit, Sized}
+use Rattle.rules.proofs.Matrices.{fits-if-stored}
+use Rattle.shape.specs.Fitting.{partsFit}
 use Rattle.shape.proofs.Fitting.{sized-of}
 use Rattle.matop.specs.Operands.{operandsFit}
 use Rattle.halved_transform.specs.Halved.{operatedByHalves}
@@ -40,13 +38,14 @@ module _ (edition : ℕ) (two : edition ≡ 2) (t : MatType) (alpha : Float) (ma
   unfolding transOppedBy operatedByHalves
   trans-op-by-halves = rw two
 
--- slices that fit hold the matrix of the shape, with as many numbers in x and y as it asks
-pub operands-joined : (transpose : Bool) (shape : Shape) (a : Slices) (x y : List Float) → operandsFit transpose shape a x y ≡ true → transformFits transpose (matrixIn shape) (joined a) x y ≡ true
+-- slices that fit hold the matrix of the shape: what it asks of x and y is what the shape asks
+pub operands-joined : (transpose : Bool) (shape : Shape) (a : Slices) (x y : List Float) → partsFit shape a ≡ true → transformFits transpose (matrixIn shape) (joined a) x y ≡ operandsFit transpose shape a x y
 operands-joined transpose shape a x y e =
-    let p = both-true (partsFit shape a && eqb (length x) (cond transpose (shape .rows .0) (shape .cols .0))) (eqb (length y) (cond transpose (shape .cols .0) (shape .rows .0))) e in
-    let q = both-true (partsFit shape a) (eqb (length x) (cond transpose (shape .rows .0) (shape .cols .0))) (p .0) in
-    let s = sized-of shape a (q .0) in
-    rw (fits-if-stored (s .stored), s .rows, s .cols, q .1, p .1)
+    let s = sized-of shape a e in
+    rw (fits-if-stored (s .stored), s .rows, s .cols, e)
+
+pub parts-misfit : (transpose : Bool) (shape : Shape) (a : Slices) (x y : List Float) → partsFit shape a ≡ false → operandsFit transpose shape a x y ≡ false
+parts-misfit transpose shape a x y e = rw e
 
 -- an outcome by one rule is one by an equal rule
 pub outcome-as : {fits : Bool} {ruled ruled' before : List Float} {answer : Bool} {after : List Float} → ruled ≡ ruled' → Outcome fits ruled before answer after → Outcome fits ruled' before answer after

@@ -74,10 +74,9 @@ fn by_halves(
         (now (y .entry)) r (now (y .exit)))
         ⌝ }
 {
-    if !matop::split::operands_fit(transpose, shape, a1, a2, x, y) {
+    if !shape::parts_fit(shape, a1, a2) {
         return false;
     }
     let t = shape::matrix_of(shape);
-    halved_transform::op_by_halves(transpose, t, alpha, a1, a2, x, beta, y);
-    true
+    halved_transform::op_by_halves(transpose, t, alpha, a1, a2, x, beta, y)
 }

@@ -5,7 +5,7 @@ ghost use lib.ListN.{length};
 ghost use Rattle.rules.specs.Arithmetic.{at};
 ghost use Rattle.rules.specs.Editions.{sumByHalves};
 ghost use Rattle.rules.specs.Vectors.{normBy};
-ghost use Rattle.norms.specs.Squares.{squareOf};
+ghost use Rattle.norms.specs.Squares.{squareOf, normOrScaled};
 
 // The root of the sum of squares, added up by the edition. Where that sum is infinite though each number is finite, it is taken of smaller numbers and made larger again.
 pub fn norm_by(edition: u32, x: &[f64]) -> f64
@@ -14,12 +14,21 @@ pub fn norm_by(edition: u32, x: &[f64]) -> f64
     if edition != 2 {
         return sums::norm(x);
     }
-    let sum = squares_by_halves(false, x);
+    norm_by_halves(false, x)
+}
+
+// Edition two's norm, or that of 2^-600 times each number, times 2^600.
+fn norm_by_halves(smaller: bool, x: &[f64]) -> f64
+    ensures { λ r. ⌜ r ≡ normOrScaled smaller (now (x .entry)) ⌝ }
+{
+    let sum = squares_by_halves(smaller, x);
+    if smaller {
+        let up = f64::from_bits(1623 * 4503599627370496);
+        return root::root(sum) * up;
+    }
     if sum == 1.0 / 0.0 {
         if finite::all_finite(x) {
-            let up = f64::from_bits(1623 * 4503599627370496);
-            let total = squares_by_halves(true, x);
-            return root::root(total) * up;
+            return norm_by_halves(true, x);
         }
     }
     root::root(sum)

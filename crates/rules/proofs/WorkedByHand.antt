@@ -7,7 +7,7 @@ use Rattle.rules.specs.Parameters.{defaults}
 use Rattle.rules.specs.Blocks.{readWord}
 use Rattle.rules.specs.Groups.{plainWords}
 use Rattle.rules.specs.Editions.{halved}
-use Rattle.rules.specs.Vectors.{normBy}
+use Rattle.rules.specs.Vectors.{normBy, abssum}
 use Rattle.rules.specs.Matrices.{oppedBy, transOppedBy, absaddedCols, absaddedRows}
 use Rattle.rules.specs.Projections.{projSOC}
 use Rattle.rules.specs.Prepare.{frNormBy}
@@ -17,5 +17,5 @@ use Rattle.rules.specs.Demands.{dueUpTo}
 use Rattle.rules.specs.WorkedByHand.{AllHold, table}
 
 pub worked-by-hand : AllHold table
-unfolding ofBits ofInt neg larger smaller root oppedBy transOppedBy absaddedCols absaddedRows projSOC tooLarge solved defaults readWord plainWords normBy frNormBy halved isDue dueUpTo logRow logStep loggedSolved
-worked-by-hand = (refl, (refl, (refl, (refl, (refl, (refl, (refl, (refl, (refl, (refl, (refl, (refl, (refl, (refl, (refl, (refl, (refl, (refl, (refl, (refl, (refl, (refl, (refl, (refl, (refl, (refl, (refl, (refl, (refl, (refl, (refl, (refl, (refl, (refl, (refl, (refl, (refl, (refl, (refl, (refl, (refl, (refl, (refl, (refl, (refl, (refl, (refl, (refl, (refl, (refl, (refl, (refl, (refl, (refl, (refl, (refl, (refl, (refl, (refl, (refl, (refl, (refl, (refl, (refl, (refl, (refl, (refl, (refl, (refl, (refl, (refl, (refl, (refl, (refl, (refl, (refl, (refl, (refl, (refl, tt)))))))))))))))))))))))))))))))))))))))))))))))))))))))))))))))))))))))))))))))
+unfolding ofBits ofInt neg larger smaller root oppedBy transOppedBy absaddedCols absaddedRows projSOC tooLarge solved defaults readWord plainWords normBy abssum frNormBy halved isDue dueUpTo logRow logStep loggedSolved
+worked-by-hand = (refl, (refl, (refl, (refl, (refl, (refl, (refl, (refl, (refl, (refl, (refl, (refl, (refl, (refl, (refl, (refl, (refl, (refl, (refl, (refl, (refl, (refl, (refl, (refl, (refl, (refl, (refl, (refl, (refl, (refl, (refl, (refl, (refl, (refl, (refl, (refl, (refl, (refl, (refl, (refl, (refl, (refl, (refl, (refl, (refl, (refl, (refl, (refl, (refl, (refl, (refl, (refl, (refl, (refl, (refl, (refl, (refl, (refl, (refl, (refl, (refl, (refl, (refl, (refl, (refl, (refl, (refl, (refl, (refl, (refl, (refl, (refl, (refl, (refl, (refl, (refl, (refl, (refl, (refl, (refl, (refl, tt)))))))))))))))))))))))))))))))))))))))))))))))))))))))))))))))))))))))))))))))))

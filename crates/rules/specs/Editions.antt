@@ -5,8 +5,8 @@ use lib.Dec.{eqb}
 use lib.Ieee.{Float, add}
 use Rattle.rules.specs.Arithmetic.{_+ᶠ_, +0, sumTo, sumFrom}
 
--- "a range of one is its term, a longer range of length L is the sum of its first floor(L/2) and the sum of the rest, an empty one is +0": of the n terms f 0, f 1, ..,
--- where a range may be cut in two so many times, one part in another
+-- "a range of one is its term, a longer range of length L is the sum of its first floor(L/2) and the sum of the rest, an empty one is +0": of the n terms f 0, f 1, ..
+-- A recursion goes by a number that falls by one: here by how often a range and its parts may still be cut.
 unfoldable pub halved : ℕ → ℕ → (ℕ → Float) → Float
 unfolding add
 halved zero n f = cond (eqb n 1) (f 0) +0
@@ -15,7 +15,7 @@ halved (suc cuts) n f =
     let both = halved cuts half f +ᶠ halved cuts (n - half) (λ k. f (half + k)) in
     cond (eqb n 0) +0 (cond (eqb n 1) (f 0) both)
 
--- A range of n terms has only ranges of one after fewer than n cuts.
+-- n times are enough for n terms, and what is left over changes nothing (`more-by-halves`, proofs/Editions.antt).
 abbrev pub sumByHalves : ℕ → (ℕ → Float) → Float
 sumByHalves n f = halved n n f
 

@@ -20,7 +20,7 @@ use Rattle.rules.specs.declared.Ending.the-variants.{Converged, ExcessIt
 use Rattle.rules.specs.Arithmetic.{+0, at}
 use Rattle.rules.specs.Editions.{sumBy}
 use Rattle.rules.specs.Helpers.{larger, smaller}
-use Rattle.rules.specs.Vectors.{norm, normBy}
+use Rattle.rules.specs.Vectors.{norm, normBy, abssum}
 use Rattle.rules.specs.Matrices.{opped, transOpped, transOppedBy, absaddedRows, absaddedCols}
 use Rattle.rules.specs.Projections.{projSOC}
 use Rattle.rules.specs.Blocks.{readWord}
@@ -153,12 +153,15 @@ oneToFour = rowOf (whole 1) (Conv (whole 2) (whole 3) (whole 4))
 abbrev failing : WholeStep
 failing = record { state = prepared byDefault; rotations = 0; failure = block 0; criteria = Conv +0 +0 +0 }
 
--- the sum of a list by an edition; a number of 1 row and 1 column; and n = m = 0 by default, but for the edition
+-- the sum of a list by an edition; matrices of one column, with one row and with three; and n = m = 0 by default, but for the edition
 abbrev summed : ℕ → List Float → Float
 summed edition xs = sumBy edition (length xs) (at xs)
 
 abbrev one-by-one : MatType
 one-by-one = General (record { 0 = 1 }) (record { 0 = 1 })
+
+abbrev three-by-one : MatType
+three-by-one = General (record { 0 = 3 }) (record { 0 = 1 })
 
 abbrev ofEdition : ℕ → Problem
 ofEdition edition = empty (withEdition (defaults 1_000_000 64) edition)
@@ -245,7 +248,7 @@ table =
     ∷ (loggedSolved (withPeriod 1 byDefault) (held 5) [] (held 4) comes-to withLog (turnedAway WorkShortage (held 5) []) (untouched (held 4)))
     ∷ (loggedSolved (withPeriod 3 (empty (epsZero0 (defaults 7 64)))) (held 6) [] (held 9) .answer comes-to loggedAnswer (answered (ExcessIterUnscaled (inf false) (inf false)) 7 0) 2 1)
     ∷ (loggedSolved (withPeriod 3 (empty (epsZero0 (defaults 7 64)))) (held 6) [] (held 9) .log comes-to (+0 ∷ inf false ∷ inf false ∷ +0 ∷ +0 ∷ inf false ∷ inf false ∷ +0 ∷ held 1))
-    -- nor these, but request (xi): sums of none, of −0, of three numbers and of five, and what edition one has of two of these; a product of −0; norms, the last two of numbers
+    -- nor these, but request (xi): sums of none, of −0, of three numbers and of five, and what edition one has of two of these; a product of these three, and their absolute sum, which has no halves; a product of −0; norms, the last two of numbers
     -- whose plain sum is infinite in edition two alone; the editions that are none; and the empty problem in edition two
     ∷ (summed 2 [] comes-to +0)
     ∷ (summed 2 (−0 ∷ []) comes-to −0)
@@ -253,6 +256,8 @@ table =
     ∷ (summed 2 (triple (1 times-2^ 53) (whole 1) (whole 1)) comes-to 4_503_599_627_370_497 times-2^ 1)
     ∷ (summed 1 (triple (1 times-2^ 53) (whole 1) (whole 1)) comes-to 1 times-2^ 53)
     ∷ (summed 2 (whole 1 ∷ whole 1 ∷ 1 times-2^ 53 ∷ whole 1 ∷ whole 1 ∷ []) comes-to 2_251_799_813_685_249 times-2^ 2)
+    ∷ (transOppedBy 2 three-by-one (whole 1) (triple (1 times-2^ 53) (whole 1) (whole 1)) (replicate 3 (whole 1)) +0 (+0 ∷ []) comes-to (4_503_599_627_370_497 times-2^ 1 ∷ []))
+    ∷ (abssum (triple (1 times-2^ 53) (whole 1) (whole 1)) 1 comes-to 1 times-2^ 53)
     ∷ (transOppedBy 2 one-by-one (whole 1) (−0 ∷ []) (whole 1 ∷ []) +0 (−0 ∷ []) comes-to (−0 ∷ []))
     ∷ (transOppedBy 1 one-by-one (whole 1) (−0 ∷ []) (whole 1 ∷ []) +0 (−0 ∷ []) comes-to (+0 ∷ []))
     ∷ (projSOC 2 (triple +0 (3 times-2^ 601) (1 times-2^ 603)) comes-to triple (5 times-2^ 600) (3 times-2^ 600) (1 times-2^ 602))

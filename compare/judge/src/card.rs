@@ -211,6 +211,7 @@ impl Card {
             a: numbers(&self.a),
             b: numbers(&self.b),
             twice: false,
+            edition: 1,
             work: work_places(MOST_SIZE, MOST_SIZE),
             cone_work: MOST_SIZE + MOST_SIZE * MOST_SIZE,
             fill: 0.0,

@@ -287,6 +287,7 @@ pub fn of_size(random: &mut Random, family: Family, packed: bool, m: usize, n: u
         a: Vector::whole(data.a),
         b: Vector::whole(data.b),
         twice: false,
+        edition: 1,
         work: work_places(m, n) + random.pick(&[0, 0, 0, 1, 2, 5]),
         cone_work: work_len(&list) + random.pick(&[0, 0, 0, 1, 3]),
         fill: fill(random),

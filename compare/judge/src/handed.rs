@@ -44,6 +44,8 @@ pub struct Handed {
     pub b: Vector,
     /// Whether a is half of a dense A, whose other columns are the same once more.
     pub twice: bool,
+    /// The edition of sums.
+    pub edition: u32,
     /// Places lent of work and of cone work, and what each of them holds.
     pub work: usize,
     pub cone_work: usize,
@@ -127,13 +129,14 @@ impl Handed {
         table.iter().find(|(_, test)| test(self)).map(|(no, _)| *no)
     }
 
-    /// Row 1, with request (ii) of document 02: each tolerance is finite and not below zero.
+    /// Row 1, with requests (ii) and (xi) of document 02: each tolerance is finite and not below zero, the edition one or two.
     fn bad_param(&self) -> bool {
         [self.eps_acc, self.eps_inf, self.eps_zero]
             .iter()
             .any(|eps| !eps.is_finite() || *eps < 0.0)
             || self.max_iter > 1_000_000
             || !(1..=64).contains(&self.sweep_limit)
+            || !(1..=2).contains(&self.edition)
     }
 
     /// Every word of the list counts, a group's too.
@@ -216,6 +219,7 @@ impl Handed {
             eps_acc: self.eps_acc,
             eps_inf: self.eps_inf,
             eps_zero: self.eps_zero + 0.0,
+            edition: self.edition,
         }
     }
 }
@@ -240,6 +244,7 @@ mod tests {
             a: Vector::whole(vec![1.0; 6]),
             b: Vector::whole(vec![1.0; 3]),
             twice: false,
+            edition: 1,
             work: 48,
             cone_work: 0,
             fill: f64::NAN,
@@ -273,6 +278,10 @@ mod tests {
         for (sweep_limit, answer) in [(0, Some(1)), (1, None), (64, None), (65, Some(1))] {
             assert_eq!(changed(|p| p.sweep_limit = sweep_limit), answer);
         }
+        for (edition, answer) in [(0, Some(1)), (1, None), (2, None), (3, Some(1))] {
+            assert_eq!(changed(|p| p.edition = edition), answer);
+        }
+        assert_eq!(changed(|p| p.edition = u32::MAX), Some(1));
         let each_is = |eps: f64, answer| {
             assert_eq!(changed(|p| p.eps_acc = eps), answer);
             assert_eq!(changed(|p| p.eps_inf = eps), answer);
@@ -374,6 +383,7 @@ mod tests {
     fn the_first_that_applies() {
         assert_eq!(changed(|p| (p.n, p.sweep_limit) = (1025, 0)), Some(1));
         assert_eq!(changed(|p| (p.n, p.eps_inf) = (1025, -1.0)), Some(1));
+        assert_eq!(changed(|p| (p.n, p.edition) = (1025, 3)), Some(1));
         assert_eq!(changed(|p| (p.n, p.work) = (1025, 0)), Some(2));
         assert_eq!(changed(|p| (p.c.length, p.work) = (3, 0)), Some(3));
         let nan = f64::NAN;

@@ -6,6 +6,7 @@ pub mod draw;
 pub mod families;
 pub mod group_shapes;
 pub mod groups;
+pub mod halved_sums;
 pub mod handed;
 pub mod lists;
 pub mod log_rows;

@@ -97,6 +97,7 @@ mod tests {
             eps_acc: 1e-6,
             eps_inf: 1e-6,
             eps_zero: 1e-12,
+            edition: 1,
         }
     }
 

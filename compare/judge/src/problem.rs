@@ -4,6 +4,7 @@ use totsu_core::solver::{Solver, SolverError};
 use totsu_core::{FloatGeneric, MatOp, MatType};
 
 use crate::cone_list::{work_len, Block, ConeList, Progress};
+use crate::halved_sums::HalvedSums;
 use crate::original::{stops_on_column_sums, stops_on_row_sums};
 use crate::ruled_norm::{Algebra, RuledNorm};
 use crate::ruled_sums::RuledSums;
@@ -21,6 +22,8 @@ pub struct Problem {
     pub eps_acc: f64,
     pub eps_inf: f64,
     pub eps_zero: f64,
+    /// The edition of sums, one or two.
+    pub edition: u32,
 }
 
 #[derive(Clone, Copy, Debug, PartialEq)]
@@ -126,9 +129,9 @@ impl Problem {
         self.run::<f64, FloatGeneric<f64>, FloatGeneric<f64>>(0)
     }
 
-    /// The watched run, with all that an ending carries.
+    /// The watched run in its edition, with all that an ending carries.
     pub fn solve(&self) -> Answer {
-        self.solve_over::<RuledNorm<Seen>, RuledNorm<Seen>>()
+        self.heard(0).0
     }
 
     /// As it was before request (ix) of document 02, with the original's own norm. What was drawn by its ending still is.
@@ -136,12 +139,12 @@ impl Problem {
         self.solve_over::<FloatGeneric<Seen>, FloatGeneric<Seen>>()
     }
 
-    /// The run over plain f64 that must come to this answer: the original's own where no norm was large.
+    /// The run over plain f64 that must come to this answer: in edition one the original's own where no norm was large.
     pub fn plain_form(&self, answer: &Answer) -> Bare {
-        if answer.large_norms == 0 {
-            self.original()
-        } else {
-            self.run::<f64, RuledNorm<f64>, RuledNorm<f64>>(0)
+        match (self.edition, answer.large_norms) {
+            (1, 0) => self.original(),
+            (1, _) => self.run::<f64, RuledNorm<f64>, RuledNorm<f64>>(0),
+            _ => self.run::<f64, HalvedSums<f64>, HalvedSums<f64>>(0),
         }
     }
 
@@ -152,7 +155,10 @@ impl Problem {
     /// The watched run with this period of the original's log, and the log's lines in order. The original writes one at each step that is due
     /// and at the one that ends the run.
     pub fn heard(&self, log_period: usize) -> (Answer, Vec<Line>) {
-        self.heard_over::<RuledNorm<Seen>, RuledNorm<Seen>>(log_period)
+        match self.edition {
+            1 => self.heard_over::<RuledNorm<Seen>, RuledNorm<Seen>>(log_period),
+            _ => self.heard_over::<HalvedSums<Seen>, HalvedSums<Seen>>(log_period),
+        }
     }
 
     fn heard_over<L: Algebra<Seen>, C: Algebra<Seen>>(

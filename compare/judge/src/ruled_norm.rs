@@ -1,5 +1,5 @@
 //! The original's linear algebra, but for the norm: request (ix) of document 02, norms of very large readings. All else of a run is the
-//! original's, which is generic over it.
+//! original's, which is generic over it. `halved_sums` has other products of matrices besides.
 
 use std::marker::PhantomData;
 use totsu_core::solver::LinAlg;
@@ -17,10 +17,48 @@ pub trait Norm: Clone {
     fn norm<F: Number>(x: &[F]) -> F;
 }
 
-/// The original's in everything but the norm.
+/// A way to take the products of a matrix, dense and packed: alpha times the matrix times x, and beta times y.
+pub trait Products: Clone {
+    /// Rows and columns are those of the matrix as it is stored.
+    fn dense<F: Number>(
+        transpose: bool,
+        shape: (usize, usize),
+        alpha: F,
+        mat: &[F],
+        x: &[F],
+        beta: F,
+        y: &mut [F],
+    );
+
+    fn packed<F: Number>(order: usize, alpha: F, mat: &[F], x: &[F], beta: F, y: &mut [F]);
+}
+
+/// The original's own products.
 #[derive(Clone)]
-pub struct With<N, F> {
-    parts: PhantomData<(N, F)>,
+pub struct Own;
+
+impl Products for Own {
+    fn dense<F: Number>(
+        transpose: bool,
+        (rows, cols): (usize, usize),
+        alpha: F,
+        mat: &[F],
+        x: &[F],
+        beta: F,
+        y: &mut [F],
+    ) {
+        FloatGeneric::transform_ge(transpose, rows, cols, alpha, mat, x, beta, y);
+    }
+
+    fn packed<F: Number>(order: usize, alpha: F, mat: &[F], x: &[F], beta: F, y: &mut [F]) {
+        FloatGeneric::transform_sp(order, alpha, mat, x, beta, y);
+    }
+}
+
+/// The original's in everything but the norm, and the products where others are named.
+#[derive(Clone)]
+pub struct With<N, F, P = Own> {
+    parts: PhantomData<(N, F, P)>,
 }
 
 /// The request's norm.
@@ -70,7 +108,7 @@ pub fn norm(x: &[f64]) -> f64 {
     Ruled::norm(x)
 }
 
-impl<N: Norm, F: Number> LinAlg for With<N, F> {
+impl<N: Norm, F: Number, P: Products> LinAlg for With<N, F, P> {
     type F = F;
     type Sl = [F];
 
@@ -103,7 +141,7 @@ impl<N: Norm, F: Number> LinAlg for With<N, F> {
     }
 }
 
-impl<N: Norm, F: Number> LinAlgEx for With<N, F> {
+impl<N: Norm, F: Number, P: Products> LinAlgEx for With<N, F, P> {
     fn transform_ge(
         transpose: bool,
         n_row: usize,
@@ -114,11 +152,11 @@ impl<N: Norm, F: Number> LinAlgEx for With<N, F> {
         beta: F,
         y: &mut [F],
     ) {
-        FloatGeneric::transform_ge(transpose, n_row, n_col, alpha, mat, x, beta, y);
+        P::dense(transpose, (n_row, n_col), alpha, mat, x, beta, y);
     }
 
     fn transform_sp(n: usize, alpha: F, mat: &[F], x: &[F], beta: F, y: &mut [F]) {
-        FloatGeneric::transform_sp(n, alpha, mat, x, beta, y);
+        P::packed(n, alpha, mat, x, beta, y);
     }
 
     fn map_eig_worklen(n: usize) -> usize {

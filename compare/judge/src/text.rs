@@ -93,6 +93,7 @@ pub fn read(text: &str) -> Result<Problem, String> {
         eps_acc: from.number("eps_acc")?,
         eps_inf: from.number("eps_inf")?,
         eps_zero: from.number("eps_zero")?,
+        edition: 1,
         c: from.numbers("c", n)?,
         a: from.numbers("A", a_type.len())?,
         b: from.numbers("b", m)?,

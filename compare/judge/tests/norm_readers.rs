@@ -10,14 +10,14 @@ use totsu_core::FloatGeneric;
 use judge::card::Told;
 use judge::cone_list::{work_len, ConeList, Progress};
 use judge::handed::Handed;
-use judge::problem::{Answer, Ending, Problem};
+use judge::problem::{Answer, Problem};
 use judge::ruled_norm::{
     is_large, plain_sum, power_of_2, scaled_norm, Algebra, Norm, Ruled, RuledNorm, With, DOWN, UP,
 };
 use judge::seen::{lend_root, watch, Number, Seen};
-use judge::words::{word, words};
+use judge::words::word;
 
-use stored::{Projected, Run};
+use stored::{told, Projected, Run};
 
 thread_local! {
     /// How many norms were taken since the run began. The first two are those of b and of c, for their Frobenius norms.
@@ -146,31 +146,6 @@ fn answer<L: Algebra<Seen>, C: Algebra<Seen>>(p: &Handed) -> Option<(Problem, An
         let answer = problem.solve_over::<L, C>();
         (problem, answer)
     })
-}
-
-/// Number, k, q, what is carried and both buffers.
-fn told(answer: &Answer) -> Vec<u64> {
-    let number = match answer.ending {
-        Ending::Converged(_) => 7,
-        Ending::ExcessIter(_) => 8,
-        Ending::ExcessIterUnscaled(_) => 9,
-        Ending::Unbounded(_) => 10,
-        Ending::Infeasible(_) => 11,
-        Ending::ConeFailure(_) => 12,
-    };
-    let mut carried = match answer.ending {
-        Ending::ConeFailure(block) => vec![block as u64],
-        _ => words(answer.ending.criteria()),
-    };
-    carried.resize(3, 0);
-    let mut all = vec![number, answer.k, answer.q];
-    all.extend(carried);
-    all.extend([answer.work.len() as u64, answer.cone_work.len() as u64]);
-    if number != 12 {
-        all.extend(words(&answer.work));
-        all.extend(words(&answer.cone_work));
-    }
-    all
 }
 
 fn run_differs<L: Algebra<Seen>, C: Algebra<Seen>>(run: &Run) -> bool {

@@ -45,6 +45,7 @@ fn no_small_run_has_unlike_zeros() {
                         eps_acc: 0.0,
                         eps_inf: 0.0,
                         eps_zero,
+                        edition: 1,
                     }
                     .solve();
                     assert_eq!(answer.unlike_zeros, 0);

@@ -243,6 +243,7 @@ fn empty(eps_zero: f64, max_iter: usize) -> Problem {
         eps_acc: 1e-6,
         eps_inf: 1e-6,
         eps_zero,
+        edition: 1,
     }
 }
 
@@ -321,6 +322,7 @@ fn cone_failure_names_its_block() {
         eps_acc: 1e-6,
         eps_inf: 1e-6,
         eps_zero: 1e-12,
+        edition: 1,
     };
     let answer = problem.solve();
     assert_eq!(answer.ending, Ending::ConeFailure(2));

@@ -49,11 +49,11 @@ pub fn proj(par: SolverParam, dual: bool, cone: Cone, x: &mut [f64], work: &mut 
         }
         // the next two refuse no block that fits
         Cone::SOC(_) => {
-            proj_soc(x);
+            proj_soc(par.edition, x);
             Projection::Done(0)
         }
         Cone::RotSOC(_) => {
-            proj_rotsoc(x);
+            proj_rotsoc(par.edition, x);
             Projection::Done(0)
         }
         Cone::PSD(order) => eig::map_eig(par, order, x, work),

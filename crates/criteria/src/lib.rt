@@ -16,7 +16,7 @@ ghost use Rattle.rules.specs.Helpers.{one, magnitude};
 ghost use Rattle.rules.specs.Matrices.{Stored};
 ghost use Rattle.rules.specs.Problem.{slices, embedIn};
 ghost use Rattle.rules.specs.Problem as problem;
-ghost use Rattle.rules.specs.Vectors.{norm};
+ghost use Rattle.rules.specs.Vectors.{normBy};
 ghost use Rattle.shape.specs.Fitting.{Fits, LikeX, Sized};
 ghost use Rattle.criteria.specs.Residuals.{primalAt, dualAt, rayAt, dualRayAt, productX, productY};
 ghost use Rattle.criteria.specs.Judging.{judgeFits, JudgeOutcome};
@@ -44,7 +44,7 @@ pub fn judge(
         JudgeOutcome
         (judgeFits shape (now (c .entry)) (slices (now (a1 .entry)) (now (a2 .entry))) (now (b .entry))
         (now (x .entry)) (now (rx .entry)))
-        (judged (embedIn shape (now (c .entry)) (slices (now (a1 .entry)) (now (a2 .entry)))
+        (judged (embedIn (par .«edition») shape (now (c .entry)) (slices (now (a1 .entry)) (now (a2 .entry)))
         (now (b .entry))) (par .«eps_zero») norms
         (now (x .entry)) (now (rx .entry)))
         (now (rx .entry)) r (now (rx .exit))
@@ -74,13 +74,13 @@ fn judge_by_tau(
     requires { ⌜ LikeX shape (now rx) ⌝ }
     ensures says { λ r. ⌜
         r
-        ≡ judged (embedIn shape (now (c .entry)) (slices (now (a1 .entry)) (now (a2 .entry)))
+        ≡ judged (embedIn (par .«edition») shape (now (c .entry)) (slices (now (a1 .entry)) (now (a2 .entry)))
         (now (b .entry))) (par .«eps_zero») norms
         (now (x .entry)) (now (rx .entry)) .criteria
         ⌝ }
     ensures rx_left { λ r. ⌜
         now (rx .exit)
-        ≡ judged (embedIn shape (now (c .entry)) (slices (now (a1 .entry)) (now (a2 .entry)))
+        ≡ judged (embedIn (par .«edition») shape (now (c .entry)) (slices (now (a1 .entry)) (now (a2 .entry)))
         (now (b .entry))) (par .«eps_zero») norms
         (now (x .entry)) (now (rx .entry)) .rx
         ⌝ }
@@ -88,7 +88,7 @@ fn judge_by_tau(
     let m = shape.rows.0;
     let n = shape.cols.0;
     if x[n + m + m] > par.eps_zero {
-        criteria_conv(shape, c, a1, a2, b, norms, x, rx)
+        criteria_conv(par.edition, shape, c, a1, a2, b, norms, x, rx)
     } else {
         criteria_inf(par, shape, c, a1, a2, b, norms, x, rx)
     }
@@ -112,6 +112,7 @@ fn fits(shape: Shape, c: &[f64], a1: &[f64], a2: &[f64], b: &[f64], x: &[f64], r
 
 // The three criteria of convergence, where tau is above eps_zero.
 fn criteria_conv(
+    edition: u32,
     shape: Shape,
     c: &[f64],
     a1: &[f64],
@@ -126,13 +127,13 @@ fn criteria_conv(
     requires { ⌜ LikeX shape (now rx) ⌝ }
     ensures says { λ r. ⌜
         r
-        ≡ converging (embedIn shape (now (c .entry)) (slices (now (a1 .entry)) (now (a2 .entry)))
+        ≡ converging (embedIn edition shape (now (c .entry)) (slices (now (a1 .entry)) (now (a2 .entry)))
         (now (b .entry))) norms (now (x .entry))
         (now (rx .entry)) .criteria
         ⌝ }
     ensures rx_left { λ r. ⌜
         now (rx .exit)
-        ≡ converging (embedIn shape (now (c .entry)) (slices (now (a1 .entry)) (now (a2 .entry)))
+        ≡ converging (embedIn edition shape (now (c .entry)) (slices (now (a1 .entry)) (now (a2 .entry)))
         (now (b .entry))) norms (now (x .entry))
         (now (rx .entry)) .rx
         ⌝ }
@@ -141,9 +142,9 @@ fn criteria_conv(
     let n = shape.cols.0;
     let mn = m + n;
     let scale = float::reciprocal(x[n + m + m]);
-    let pri = primal_residual(shape, a1, a2, b, scale, x, &mut rx[0..m]);
-    let dual = dual_residual(shape, c, a1, a2, scale, x, &mut rx[m..mn]);
-    let g = objectives(shape, c, b, scale, 1.0, x);
+    let pri = primal_residual(edition, shape, a1, a2, b, scale, x, &mut rx[0..m]);
+    let dual = dual_residual(edition, shape, c, a1, a2, scale, x, &mut rx[m..mn]);
+    let g = objectives(edition, shape, c, b, scale, 1.0, x);
     Criteria::Conv(
         pri / (1.0 + norms.b),
         dual / (1.0 + norms.c),
@@ -153,6 +154,7 @@ fn criteria_conv(
 
 // p becomes s / tau - b + A * x / tau; its norm.
 fn primal_residual(
+    edition: u32,
     shape: Shape,
     a1: &[f64],
     a2: &[f64],
@@ -166,10 +168,10 @@ fn primal_residual(
     requires { ⌜ LikeX shape (now x) ⌝ }
     requires { ⌜ length (now p) ≡ shape .rows .0 ⌝ }
     ensures p_left { λ r. ⌜
-        now (p .exit) ≡ primalAt shape (slices (now (a1 .entry)) (now (a2 .entry))) (now (b .entry)) scale
+        now (p .exit) ≡ primalAt edition shape (slices (now (a1 .entry)) (now (a2 .entry))) (now (b .entry)) scale
         (now (x .entry))
         ⌝ }
-    ensures is_norm { λ r. ⌜ r ≡ norm (now (p .exit)) ⌝ }
+    ensures is_norm { λ r. ⌜ r ≡ normBy edition (now (p .exit)) ⌝ }
 {
     let one = [1.0; 1];
     let m = shape.rows.0;
@@ -177,13 +179,14 @@ fn primal_residual(
     let nm = n + m;
     let nmm = nm + m;
     linalg::copy(&x[nm..nmm], p);
-    matop::op(column(m), -1.0, b, &one, scale, p);
-    matop::split::op(shape, scale, a1, a2, &x[0..n], 1.0, p);
-    sums::norm(p)
+    matop_by::op_by(edition, column(m), -1.0, b, &one, scale, p);
+    matop_by::split::op_by(edition, shape, scale, a1, a2, &x[0..n], 1.0, p);
+    norms::norm_by(edition, p)
 }
 
 // d becomes c + A transposed * y / tau; its norm.
 fn dual_residual(
+    edition: u32,
     shape: Shape,
     c: &[f64],
     a1: &[f64],
@@ -197,18 +200,18 @@ fn dual_residual(
     requires { ⌜ LikeX shape (now x) ⌝ }
     requires { ⌜ length (now d) ≡ shape .cols .0 ⌝ }
     ensures d_left { λ r. ⌜
-        now (d .exit) ≡ dualAt shape (now (c .entry)) (slices (now (a1 .entry)) (now (a2 .entry))) scale
+        now (d .exit) ≡ dualAt edition shape (now (c .entry)) (slices (now (a1 .entry)) (now (a2 .entry))) scale
         (now (x .entry)) (now (d .entry))
         ⌝ }
-    ensures is_norm { λ r. ⌜ r ≡ norm (now (d .exit)) ⌝ }
+    ensures is_norm { λ r. ⌜ r ≡ normBy edition (now (d .exit)) ⌝ }
 {
     let one = [1.0; 1];
     let m = shape.rows.0;
     let n = shape.cols.0;
     let nm = n + m;
-    matop::op(column(n), 1.0, c, &one, 0.0, d);
-    matop::split::trans_op(shape, scale, a1, a2, &x[n..nm], 1.0, d);
-    sums::norm(d)
+    matop_by::op_by(edition, column(n), 1.0, c, &one, 0.0, d);
+    matop_by::split::trans_op_by(edition, shape, scale, a1, a2, &x[n..nm], 1.0, d);
+    norms::norm_by(edition, d)
 }
 
 // The gap between c * x / tau and -b * y / tau, which are g_x and -g_y.
@@ -226,20 +229,28 @@ struct Products {
 
 // Both products are worked out in one place, which each first multiplies by 0: the first multiplies
 // start, the second what the first left.
-fn objectives(shape: Shape, c: &[f64], b: &[f64], alpha: f64, start: f64, x: &[f64]) -> Products
+fn objectives(
+    edition: u32,
+    shape: Shape,
+    c: &[f64],
+    b: &[f64],
+    alpha: f64,
+    start: f64,
+    x: &[f64],
+) -> Products
     requires { ⌜ Stored (problem.column (shape .cols .0)) (now c) ⌝ }
     requires { ⌜ Stored (problem.column (shape .rows .0)) (now b) ⌝ }
     requires { ⌜ LikeX shape (now x) ⌝ }
-    ensures of_x { λ r. ⌜ r .cx ≡ at (productX shape (now (c .entry)) alpha start (now (x .entry))) 0 ⌝ }
-    ensures of_y { λ r. ⌜ r .by ≡ at (productY shape (now (c .entry)) (now (b .entry)) alpha start (now (x .entry))) 0 ⌝ }
+    ensures of_x { λ r. ⌜ r .cx ≡ at (productX edition shape (now (c .entry)) alpha start (now (x .entry))) 0 ⌝ }
+    ensures of_y { λ r. ⌜ r .by ≡ at (productY edition shape (now (c .entry)) (now (b .entry)) alpha start (now (x .entry))) 0 ⌝ }
 {
     let mut one = [start; 1];
     let m = shape.rows.0;
     let n = shape.cols.0;
     let nm = n + m;
-    matop::trans_op(column(n), alpha, c, &x[0..n], 0.0, &mut one);
+    matop_by::trans_op_by(edition, column(n), alpha, c, &x[0..n], 0.0, &mut one);
     let cx = one[0];
-    matop::trans_op(column(m), alpha, b, &x[n..nm], 0.0, &mut one);
+    matop_by::trans_op_by(edition, column(m), alpha, b, &x[n..nm], 0.0, &mut one);
     let by = one[0];
     Products { cx, by }
 }
@@ -261,13 +272,13 @@ fn criteria_inf(
     requires { ⌜ LikeX shape (now rx) ⌝ }
     ensures says { λ r. ⌜
         r
-        ≡ diverging (embedIn shape (now (c .entry)) (slices (now (a1 .entry)) (now (a2 .entry)))
+        ≡ diverging (embedIn (par .«edition») shape (now (c .entry)) (slices (now (a1 .entry)) (now (a2 .entry)))
         (now (b .entry))) (par .«eps_zero») norms
         (now (x .entry)) (now (rx .entry)) .criteria
         ⌝ }
     ensures rx_left { λ r. ⌜
         now (rx .exit)
-        ≡ diverging (embedIn shape (now (c .entry)) (slices (now (a1 .entry)) (now (a2 .entry)))
+        ≡ diverging (embedIn (par .«edition») shape (now (c .entry)) (slices (now (a1 .entry)) (now (a2 .entry)))
         (now (b .entry))) (par .«eps_zero») norms
         (now (x .entry)) (now (rx .entry)) .rx
         ⌝ }
@@ -275,9 +286,9 @@ fn criteria_inf(
     let m = shape.rows.0;
     let n = shape.cols.0;
     let mn = m + n;
-    let pri = ray(shape, a1, a2, x, &mut rx[0..m]);
-    let dual = dual_ray(shape, a1, a2, x, &mut rx[m..mn]);
-    let r = objectives(shape, c, b, -1.0, 0.0, x);
+    let pri = ray(par.edition, shape, a1, a2, x, &mut rx[0..m]);
+    let dual = dual_ray(par.edition, shape, a1, a2, x, &mut rx[m..mn]);
+    let r = objectives(par.edition, shape, c, b, -1.0, 0.0, x);
     Criteria::Inf(
         ratio(par.eps_zero, pri, norms.c, r.cx),
         ratio(par.eps_zero, dual, norms.b, r.by),
@@ -285,38 +296,38 @@ fn criteria_inf(
 }
 
 // p becomes s + A * x; its norm.
-fn ray(shape: Shape, a1: &[f64], a2: &[f64], x: &[f64], p: &mut [f64]) -> f64
+fn ray(edition: u32, shape: Shape, a1: &[f64], a2: &[f64], x: &[f64], p: &mut [f64]) -> f64
     requires { ⌜ Sized shape (slices (now a1) (now a2)) ⌝ }
     requires { ⌜ LikeX shape (now x) ⌝ }
     requires { ⌜ length (now p) ≡ shape .rows .0 ⌝ }
-    ensures p_left { λ r. ⌜ now (p .exit) ≡ rayAt shape (slices (now (a1 .entry)) (now (a2 .entry))) (now (x .entry)) ⌝ }
-    ensures is_norm { λ r. ⌜ r ≡ norm (now (p .exit)) ⌝ }
+    ensures p_left { λ r. ⌜ now (p .exit) ≡ rayAt edition shape (slices (now (a1 .entry)) (now (a2 .entry))) (now (x .entry)) ⌝ }
+    ensures is_norm { λ r. ⌜ r ≡ normBy edition (now (p .exit)) ⌝ }
 {
     let m = shape.rows.0;
     let n = shape.cols.0;
     let nm = n + m;
     let nmm = nm + m;
     linalg::copy(&x[nm..nmm], p);
-    matop::split::op(shape, 1.0, a1, a2, &x[0..n], 1.0, p);
-    sums::norm(p)
+    matop_by::split::op_by(edition, shape, 1.0, a1, a2, &x[0..n], 1.0, p);
+    norms::norm_by(edition, p)
 }
 
 // d becomes A transposed * y; its norm.
-fn dual_ray(shape: Shape, a1: &[f64], a2: &[f64], x: &[f64], d: &mut [f64]) -> f64
+fn dual_ray(edition: u32, shape: Shape, a1: &[f64], a2: &[f64], x: &[f64], d: &mut [f64]) -> f64
     requires { ⌜ Sized shape (slices (now a1) (now a2)) ⌝ }
     requires { ⌜ LikeX shape (now x) ⌝ }
     requires { ⌜ length (now d) ≡ shape .cols .0 ⌝ }
     ensures d_left { λ r. ⌜
-        now (d .exit) ≡ dualRayAt shape (slices (now (a1 .entry)) (now (a2 .entry))) (now (x .entry))
+        now (d .exit) ≡ dualRayAt edition shape (slices (now (a1 .entry)) (now (a2 .entry))) (now (x .entry))
         (now (d .entry))
         ⌝ }
-    ensures is_norm { λ r. ⌜ r ≡ norm (now (d .exit)) ⌝ }
+    ensures is_norm { λ r. ⌜ r ≡ normBy edition (now (d .exit)) ⌝ }
 {
     let m = shape.rows.0;
     let n = shape.cols.0;
     let nm = n + m;
-    matop::split::trans_op(shape, 1.0, a1, a2, &x[n..nm], 0.0, d);
-    sums::norm(d)
+    matop_by::split::trans_op_by(edition, shape, 1.0, a1, a2, &x[n..nm], 0.0, d);
+    norms::norm_by(edition, d)
 }
 
 // A norm times another, over a number above eps_zero; infinite if it is not above.

@@ -12,6 +12,7 @@ ghost use Rattle.shape.specs.Fitting.{embedFits, Fits, LikeX, LikeY};
 
 // y becomes alpha * K * x + beta * y. Where a length or a size doesn't fit, it answers no and changes nothing.
 pub fn op(
+    edition: u32,
     shape: Shape,
     c: &[f64],
     a1: &[f64],
@@ -26,7 +27,7 @@ pub fn op(
         Outcome
         (embedFits shape (now (c .entry)) (slices (now (a1 .entry)) (now (a2 .entry))) (now (b .entry))
         (now (x .entry)) (now (y .entry)))
-        (opK (embedIn shape (now (c .entry)) (slices (now (a1 .entry)) (now (a2 .entry))) (now (b .entry)))
+        (opK (embedIn edition shape (now (c .entry)) (slices (now (a1 .entry)) (now (a2 .entry))) (now (b .entry)))
         alpha (now (x .entry)) beta
         (now (y .entry)))
         (now (y .entry)) r (now (y .exit))
@@ -35,11 +36,12 @@ pub fn op(
     if !embed_fits(shape, c, a1, a2, b, x, y) {
         return false;
     }
-    op_all(shape, c, a1, a2, b, alpha, x, beta, y);
+    op_all(edition, shape, c, a1, a2, b, alpha, x, beta, y);
     true
 }
 
 fn op_all(
+    edition: u32,
     shape: Shape,
     c: &[f64],
     a1: &[f64],
@@ -55,7 +57,7 @@ fn op_all(
     requires { ⌜ LikeY shape (now y) ⌝ }
     ensures { λ _. ⌜
         now (y .exit)
-        ≡ opK (embedIn shape (now (c .entry)) (slices (now (a1 .entry)) (now (a2 .entry))) (now (b .entry)))
+        ≡ opK (embedIn edition shape (now (c .entry)) (slices (now (a1 .entry)) (now (a2 .entry))) (now (b .entry)))
         alpha (now (x .entry)) beta
         (now (y .entry))
         ⌝ }
@@ -64,12 +66,24 @@ fn op_all(
     let n = shape.cols.0;
     let nm = n + m;
     let nm1 = nm + 1;
-    op_n(shape, c, a1, a2, b, alpha, x, beta, &mut y[0..n]);
-    op_m(shape, c, a1, a2, b, alpha, x, beta, &mut y[n..nm]);
-    op_1(shape, c, a1, a2, b, alpha, x, beta, &mut y[nm..nm1]);
+    op_n(edition, shape, c, a1, a2, b, alpha, x, beta, &mut y[0..n]);
+    op_m(edition, shape, c, a1, a2, b, alpha, x, beta, &mut y[n..nm]);
+    op_1(
+        edition,
+        shape,
+        c,
+        a1,
+        a2,
+        b,
+        alpha,
+        x,
+        beta,
+        &mut y[nm..nm1],
+    );
 }
 
 fn op_n(
+    edition: u32,
     shape: Shape,
     c: &[f64],
     a1: &[f64],
@@ -85,7 +99,7 @@ fn op_n(
     requires { ⌜ length (now «y_n») ≡ shape .cols .0 ⌝ }
     ensures { λ _. ⌜
         now («y_n» .exit)
-        ≡ onN (embedIn shape (now (c .entry)) (slices (now (a1 .entry)) (now (a2 .entry))) (now (b .entry)))
+        ≡ onN (embedIn edition shape (now (c .entry)) (slices (now (a1 .entry)) (now (a2 .entry))) (now (b .entry)))
         alpha (now (x .entry)) beta
         (now («y_n» .entry))
         ⌝ }
@@ -95,11 +109,12 @@ fn op_n(
     let nm = n + m;
     let nmm = nm + m;
     let nmm1 = nmm + 1;
-    matop::split::trans_op(shape, alpha, a1, a2, &x[n..nm], beta, y_n);
-    matop::op(column(n), alpha, c, &x[nmm..nmm1], 1.0, y_n);
+    matop_by::split::trans_op_by(edition, shape, alpha, a1, a2, &x[n..nm], beta, y_n);
+    matop_by::op_by(edition, column(n), alpha, c, &x[nmm..nmm1], 1.0, y_n);
 }
 
 fn op_m(
+    edition: u32,
     shape: Shape,
     c: &[f64],
     a1: &[f64],
@@ -115,7 +130,7 @@ fn op_m(
     requires { ⌜ length (now «y_m») ≡ shape .rows .0 ⌝ }
     ensures { λ _. ⌜
         now («y_m» .exit)
-        ≡ onM (embedIn shape (now (c .entry)) (slices (now (a1 .entry)) (now (a2 .entry))) (now (b .entry)))
+        ≡ onM (embedIn edition shape (now (c .entry)) (slices (now (a1 .entry)) (now (a2 .entry))) (now (b .entry)))
         alpha (now (x .entry)) beta
         (now («y_m» .entry))
         ⌝ }
@@ -125,12 +140,13 @@ fn op_m(
     let nm = n + m;
     let nmm = nm + m;
     let nmm1 = nmm + 1;
-    matop::split::op(shape, -alpha, a1, a2, &x[0..n], beta, y_m);
+    matop_by::split::op_by(edition, shape, -alpha, a1, a2, &x[0..n], beta, y_m);
     linalg::add(-alpha, &x[nm..nmm], y_m);
-    matop::op(column(m), alpha, b, &x[nmm..nmm1], 1.0, y_m);
+    matop_by::op_by(edition, column(m), alpha, b, &x[nmm..nmm1], 1.0, y_m);
 }
 
 fn op_1(
+    edition: u32,
     shape: Shape,
     c: &[f64],
     a1: &[f64],
@@ -146,7 +162,7 @@ fn op_1(
     requires { ⌜ length (now «y_1») ≡ 1 ⌝ }
     ensures { λ _. ⌜
         now («y_1» .exit)
-        ≡ on1 (embedIn shape (now (c .entry)) (slices (now (a1 .entry)) (now (a2 .entry))) (now (b .entry)))
+        ≡ on1 (embedIn edition shape (now (c .entry)) (slices (now (a1 .entry)) (now (a2 .entry))) (now (b .entry)))
         alpha (now (x .entry)) beta
         (now («y_1» .entry))
         ⌝ }
@@ -154,6 +170,6 @@ fn op_1(
     let m = shape.rows.0;
     let n = shape.cols.0;
     let nm = n + m;
-    matop::trans_op(column(n), -alpha, c, &x[0..n], beta, y_1);
-    matop::trans_op(column(m), -alpha, b, &x[n..nm], 1.0, y_1);
+    matop_by::trans_op_by(edition, column(n), -alpha, c, &x[0..n], beta, y_1);
+    matop_by::trans_op_by(edition, column(m), -alpha, b, &x[n..nm], 1.0, y_1);
 }

@@ -12,6 +12,7 @@ ghost use Rattle.shape.specs.Fitting.{embedFits, Fits, LikeX, LikeY};
 
 // x becomes alpha * K transposed * y + beta * x. Where a length or a size doesn't fit, it answers no and changes nothing.
 pub fn trans_op(
+    edition: u32,
     shape: Shape,
     c: &[f64],
     a1: &[f64],
@@ -26,7 +27,7 @@ pub fn trans_op(
         Outcome
         (embedFits shape (now (c .entry)) (slices (now (a1 .entry)) (now (a2 .entry))) (now (b .entry))
         (now (x .entry)) (now (y .entry)))
-        (transOpK (embedIn shape (now (c .entry)) (slices (now (a1 .entry)) (now (a2 .entry)))
+        (transOpK (embedIn edition shape (now (c .entry)) (slices (now (a1 .entry)) (now (a2 .entry)))
         (now (b .entry))) alpha (now (y .entry)) beta
         (now (x .entry)))
         (now (x .entry)) r (now (x .exit))
@@ -35,11 +36,12 @@ pub fn trans_op(
     if !embed_fits(shape, c, a1, a2, b, x, y) {
         return false;
     }
-    trans_all(shape, c, a1, a2, b, alpha, y, beta, x);
+    trans_all(edition, shape, c, a1, a2, b, alpha, y, beta, x);
     true
 }
 
 fn trans_all(
+    edition: u32,
     shape: Shape,
     c: &[f64],
     a1: &[f64],
@@ -55,7 +57,7 @@ fn trans_all(
     requires { ⌜ LikeX shape (now x) ⌝ }
     ensures { λ _. ⌜
         now (x .exit)
-        ≡ transOpK (embedIn shape (now (c .entry)) (slices (now (a1 .entry)) (now (a2 .entry)))
+        ≡ transOpK (embedIn edition shape (now (c .entry)) (slices (now (a1 .entry)) (now (a2 .entry)))
         (now (b .entry))) alpha (now (y .entry))
         beta (now (x .entry))
         ⌝ }
@@ -65,13 +67,36 @@ fn trans_all(
     let nm = n + m;
     let nmm = nm + m;
     let nmm1 = nmm + 1;
-    trans_x(shape, c, a1, a2, b, alpha, y, beta, &mut x[0..n]);
-    trans_y(shape, c, a1, a2, b, alpha, y, beta, &mut x[n..nm]);
-    trans_s(shape, c, a1, a2, b, alpha, y, beta, &mut x[nm..nmm]);
-    trans_tau(shape, c, a1, a2, b, alpha, y, beta, &mut x[nmm..nmm1]);
+    trans_x(edition, shape, c, a1, a2, b, alpha, y, beta, &mut x[0..n]);
+    trans_y(edition, shape, c, a1, a2, b, alpha, y, beta, &mut x[n..nm]);
+    trans_s(
+        edition,
+        shape,
+        c,
+        a1,
+        a2,
+        b,
+        alpha,
+        y,
+        beta,
+        &mut x[nm..nmm],
+    );
+    trans_tau(
+        edition,
+        shape,
+        c,
+        a1,
+        a2,
+        b,
+        alpha,
+        y,
+        beta,
+        &mut x[nmm..nmm1],
+    );
 }
 
 fn trans_x(
+    edition: u32,
     shape: Shape,
     c: &[f64],
     a1: &[f64],
@@ -87,7 +112,7 @@ fn trans_x(
     requires { ⌜ length (now «x_x») ≡ shape .cols .0 ⌝ }
     ensures { λ _. ⌜
         now («x_x» .exit)
-        ≡ backX (embedIn shape (now (c .entry)) (slices (now (a1 .entry)) (now (a2 .entry)))
+        ≡ backX (embedIn edition shape (now (c .entry)) (slices (now (a1 .entry)) (now (a2 .entry)))
         (now (b .entry))) alpha (now (y .entry)) beta
         (now («x_x» .entry))
         ⌝ }
@@ -96,11 +121,12 @@ fn trans_x(
     let n = shape.cols.0;
     let nm = n + m;
     let nm1 = nm + 1;
-    matop::split::trans_op(shape, -alpha, a1, a2, &y[n..nm], beta, x_x);
-    matop::op(column(n), -alpha, c, &y[nm..nm1], 1.0, x_x);
+    matop_by::split::trans_op_by(edition, shape, -alpha, a1, a2, &y[n..nm], beta, x_x);
+    matop_by::op_by(edition, column(n), -alpha, c, &y[nm..nm1], 1.0, x_x);
 }
 
 fn trans_y(
+    edition: u32,
     shape: Shape,
     c: &[f64],
     a1: &[f64],
@@ -116,7 +142,7 @@ fn trans_y(
     requires { ⌜ length (now «x_y») ≡ shape .rows .0 ⌝ }
     ensures { λ _. ⌜
         now («x_y» .exit)
-        ≡ backY (embedIn shape (now (c .entry)) (slices (now (a1 .entry)) (now (a2 .entry)))
+        ≡ backY (embedIn edition shape (now (c .entry)) (slices (now (a1 .entry)) (now (a2 .entry)))
         (now (b .entry))) alpha (now (y .entry)) beta
         (now («x_y» .entry))
         ⌝ }
@@ -125,11 +151,12 @@ fn trans_y(
     let n = shape.cols.0;
     let nm = n + m;
     let nm1 = nm + 1;
-    matop::split::op(shape, alpha, a1, a2, &y[0..n], beta, x_y);
-    matop::op(column(m), -alpha, b, &y[nm..nm1], 1.0, x_y);
+    matop_by::split::op_by(edition, shape, alpha, a1, a2, &y[0..n], beta, x_y);
+    matop_by::op_by(edition, column(m), -alpha, b, &y[nm..nm1], 1.0, x_y);
 }
 
 fn trans_s(
+    edition: u32,
     shape: Shape,
     c: &[f64],
     a1: &[f64],
@@ -145,7 +172,7 @@ fn trans_s(
     requires { ⌜ length (now «x_s») ≡ shape .rows .0 ⌝ }
     ensures { λ _. ⌜
         now («x_s» .exit)
-        ≡ backS (embedIn shape (now (c .entry)) (slices (now (a1 .entry)) (now (a2 .entry)))
+        ≡ backS (embedIn edition shape (now (c .entry)) (slices (now (a1 .entry)) (now (a2 .entry)))
         (now (b .entry))) alpha (now (y .entry)) beta
         (now («x_s» .entry))
         ⌝ }
@@ -158,6 +185,7 @@ fn trans_s(
 }
 
 fn trans_tau(
+    edition: u32,
     shape: Shape,
     c: &[f64],
     a1: &[f64],
@@ -173,7 +201,7 @@ fn trans_tau(
     requires { ⌜ length (now «x_tau») ≡ 1 ⌝ }
     ensures { λ _. ⌜
         now («x_tau» .exit)
-        ≡ backTau (embedIn shape (now (c .entry)) (slices (now (a1 .entry)) (now (a2 .entry)))
+        ≡ backTau (embedIn edition shape (now (c .entry)) (slices (now (a1 .entry)) (now (a2 .entry)))
         (now (b .entry))) alpha (now (y .entry)) beta
         (now («x_tau» .entry))
         ⌝ }
@@ -181,6 +209,6 @@ fn trans_tau(
     let m = shape.rows.0;
     let n = shape.cols.0;
     let nm = n + m;
-    matop::trans_op(column(n), alpha, c, &y[0..n], beta, x_tau);
-    matop::trans_op(column(m), alpha, b, &y[n..nm], 1.0, x_tau);
+    matop_by::trans_op_by(edition, column(n), alpha, c, &y[0..n], beta, x_tau);
+    matop_by::trans_op_by(edition, column(m), alpha, b, &y[n..nm], 1.0, x_tau);
 }

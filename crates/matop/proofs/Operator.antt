@@ -24,4 +24,4 @@ module _ (transpose : Bool) (alpha : Float) (mat x : List Float) (beta : Float) 
 
     pub transforms-packed : (rows : Rows) → isEmpty (SymPack rows) ≡ false → Outcome (transformFits false (SymPack rows) mat x y) (transformed alpha (entry (SymPack rows) mat) x beta y) y answer after → Outcome (transformFits transpose (SymPack rows) mat x y) (operated transpose (SymPack rows) alpha mat x beta y) y answer after
     transforms-packed rows e o =
-        transforms (SymPack rows) e (rw (packed-fits transpose rows mat x y, transformed-same alpha (entries transpose (SymPack rows) mat) (entry (SymPack rows) mat) x beta y (packed-transposed transpose rows mat)) o)
+        transforms (SymPack rows) e (rw (packed-fits transpose rows mat x y, transformed-same 1 alpha (entries transpose (SymPack rows) mat) (entry (SymPack rows) mat) x beta y (packed-transposed transpose rows mat)) o)

@@ -4,9 +4,9 @@ use mathlib.Core.List.{List}
 use lib.Ieee.{Float}
 use Rattle.rules.specs.declared.MatType.{MatType}
 use Rattle.rules.specs.Vectors.{scaled}
-use Rattle.rules.specs.Matrices.{entries, isEmpty, transformed}
+use Rattle.rules.specs.Matrices.{entries, isEmpty, transformed, transformedBy}
 
 -- a matrix, or the matrix transposed, as an operator
 unfoldable pub operated : Bool → MatType → Float → List Float → List Float → Float → List Float → List Float
-unfolding scaled transformed
+unfolding scaled transformedBy
 operated transpose t alpha mat x beta y = cond (isEmpty t) (scaled beta y) (transformed alpha (entries transpose t mat) x beta y)

@@ -5,6 +5,7 @@ use rules::MatType;
 use rules::Rows;
 ghost use Prim.Native.Nat.{_≤_};
 ghost use mathlib.Core.Path.{_≡_};
+ghost use mathlib.Core.List.{_++_};
 ghost use Rattle.rules.specs.Limits.{limit};
 ghost use Rattle.rules.specs.Matrices.{nRow, nCol, storedLength, storedFits, transformFits};
 ghost use Rattle.rules.specs.Matrices as rules;
@@ -95,6 +96,41 @@ pub fn transform_fits(transpose: bool, t: MatType, mat: &[f64], x: &[f64], y: &[
         return false;
     }
     y.len() == height(transpose, t)
+}
+
+// The same of a matrix whose numbers stand in two slices, one after the other.
+pub fn joined_fits(
+    transpose: bool,
+    t: MatType,
+    a1: &[f64],
+    a2: &[f64],
+    x: &[f64],
+    y: &[f64],
+) -> bool
+    ensures { λ r. ⌜
+        r ≡ transformFits transpose t (now (a1 .entry) ++ now (a2 .entry)) (now (x .entry)) (now (y .entry))
+        ⌝ }
+{
+    if LIMIT < n_row(t) {
+        return false;
+    }
+    if LIMIT < n_col(t) {
+        return false;
+    }
+    let all = stored_length(t);
+    if a1.len() > all {
+        return false;
+    }
+    if a2.len() != all - a1.len() {
+        return false;
+    }
+    if width(transpose, t) != x.len() {
+        return false;
+    }
+    if height(transpose, t) != y.len() {
+        return false;
+    }
+    true
 }
 
 // Whether rows and columns are within the limits, and a dense matrix stands in two slices: the first columns in one, the rest in the other.

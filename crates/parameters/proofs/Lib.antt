@@ -1,3 +1,2 @@
-pub mod Above
 pub mod Read
 pub mod Coincide

@@ -39,7 +39,13 @@ pub fn bad_param(par: SolverParam) -> bool
     if par.sweep_limit < 1 {
         return true;
     }
-    par.sweep_limit > MOST_SWEEPS
+    if par.sweep_limit > MOST_SWEEPS {
+        return true;
+    }
+    if par.edition == 1 {
+        return false;
+    }
+    par.edition != 2
 }
 
 // An eps_zero of -0 is read as +0.

@@ -14,14 +14,14 @@ use Rattle.rules.specs.Outcome.{Outcome}
 use Rattle.rules.specs.Arithmetic.{+0}
 use Rattle.rules.specs.Vectors.{scaled}
 use Rattle.rules.specs.Product.{listFits}
-use Rattle.rules.specs.Problem.{Slices, problemIn, embedIn, lengthX}
+use Rattle.rules.specs.Problem.{Slices, problemIn, lengthX}
 use Rattle.rules.specs.Step.{part}
 use Rattle.rules.specs.Prepare.{diagonal, sumsX, sumsY, sumsS, sumsTau, groupedX, dpTauOf, dpSigmaOf}
 use Rattle.rules.proofs.Outcome.{ruled-if-fits}
 use Rattle.rules.proofs.Parts.{put, next-put, part-after, places}
 use Rattle.rules.proofs.Lengths.{sumsX-length, sumsY-length, sumsS-length, sumsTau-length}
 use Rattle.precond.proofs.Fitting.{list-fits}
-use Rattle.precond.specs.Precond.{Covers, columnSums, rowSums, rowsOf, groupedParts}
+use Rattle.precond.specs.Precond.{Covers, columnSums, rowSums, rowsOf, groupedParts, operatorsIn}
 
 -- what a caller whose list of blocks has all places learns
 pub group-ruled : {shape : Shape} {words : List ℕ} {xs ruled : List Float} {answer : Bool} {after : List Float} → Covers shape words → shape .rows .0 ≤ limit → length xs ≡ shape .rows .0 → Outcome (listFits words xs) ruled xs answer after → after ≡ ruled
@@ -75,9 +75,9 @@ module _ (n m : ℕ) (d p : List Float) (d-length : length d ≡ n + m + m + 1) 
       rw (places (n + m) m) (part-after n (n + m) d p (omega arith) (omega arith) (p-length ∙ sym (places n m)) (n + m) m (omega arith))
 
 -- the rows' sums are made of the columns'
-pub rows-of-columns : (shape : Shape) (c : List Float) (a : Slices) (b t : List Float) → length t ≡ lengthX (shape .rows .0) (shape .cols .0) → rowsOf shape (columnSums (embedIn shape c a b) t) ≡ rowSums (embedIn shape c a b) t
+pub rows-of-columns : (shape : Shape) (c : List Float) (a : Slices) (b t : List Float) → length t ≡ lengthX (shape .rows .0) (shape .cols .0) → rowsOf shape (columnSums (operatorsIn shape c a b) t) ≡ rowSums (operatorsIn shape c a b) t
 rows-of-columns shape c a b t h =
-    let k = embedIn shape c a b in
+    let k = operatorsIn shape c a b in
     let p = sumsX-length k t h in
     let q = sumsY-length k t h in
     let r = sumsS-length k t h in
@@ -91,10 +91,10 @@ rows-of-columns shape c a b t h =
 
 -- the rules, written out
 module _ (shape : Shape) (c : List Float) (a : Slices) (b : List Float) (words : List ℕ) (par : SolverParam) (tau : List Float) where
-  pub dpTau-is : dpTauOf (problemIn shape c a b words par) tau ≡ groupedParts shape words (diagonal (par .«eps_zero») (columnSums (embedIn shape c a b) (scaled +0 tau)))
+  pub dpTau-is : dpTauOf (problemIn shape c a b words par) tau ≡ groupedParts shape words (diagonal (par .«eps_zero») (columnSums (operatorsIn shape c a b) (scaled +0 tau)))
   unfolding dpTauOf groupedX
   dpTau-is = refl
 
-  pub dpSigma-is : dpSigmaOf (problemIn shape c a b words par) tau ≡ diagonal (par .«eps_zero») (rowSums (embedIn shape c a b) (scaled +0 tau))
+  pub dpSigma-is : dpSigmaOf (problemIn shape c a b words par) tau ≡ diagonal (par .«eps_zero») (rowSums (operatorsIn shape c a b) (scaled +0 tau))
   unfolding dpSigmaOf
   dpSigma-is = refl

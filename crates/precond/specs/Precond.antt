@@ -10,7 +10,7 @@ use Rattle.rules.specs.Vectors.{added}
 use Rattle.rules.specs.Matrices.{absaddedCols, absaddedRows}
 use Rattle.rules.specs.Blocks.{blocksOf, isBadCone}
 use Rattle.rules.specs.Product.{groupAll}
-use Rattle.rules.specs.Problem.{Problem, Slices, Embed, column}
+use Rattle.rules.specs.Problem.{Problem, Slices, Embed, embedIn, column}
 use Rattle.rules.specs.Step.{part}
 use Rattle.rules.specs.Prepare.{sumsX, sumsY, sumsS, sumsTau, dpTauOf, dpSigmaOf}
 use Rattle.shape.specs.Fitting.{operatorsFit, fitsX, fitsY}
@@ -32,6 +32,10 @@ pub record PrecondOutcome (fits : Bool) (p : Problem) (tau sigma : List Float) (
   pub answered : answer ≡ fits
   pub tau-left : tau' ≡ cond fits (dpTauOf p tau) tau
   pub sigma-left : sigma' ≡ cond fits (dpSigmaOf p tau) sigma
+
+-- c, A and b as operators: their absolute sums are added up from the left in either edition, so that edition one stands for both
+abbrev pub operatorsIn : Shape → List Float → Slices → List Float → Embed
+operatorsIn shape c a b = embedIn 1 shape c a b
 
 -- ---- abssum: the absolute sums of the operator's columns are added to what the parts of a vector like x hold
 module _ (k : Embed) (v : List Float) where

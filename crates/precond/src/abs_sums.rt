@@ -6,10 +6,10 @@ ghost use mathlib.Core.Path.{_≡_};
 ghost use lib.ListN.{length};
 ghost use Rattle.rules.specs.Arithmetic.{+0};
 ghost use Rattle.rules.specs.Vectors.{scaled};
-ghost use Rattle.rules.specs.Problem.{slices, embedIn};
+ghost use Rattle.rules.specs.Problem.{slices};
 ghost use Rattle.rules.specs.Step.{part};
 ghost use Rattle.shape.specs.Fitting.{Fits, LikeX, LikeY};
-ghost use Rattle.precond.specs.Precond.{withSumsX, withSumsY, withSumsTau, columnSums, rowSums, rowsM, rowsOf};
+ghost use Rattle.precond.specs.Precond.{withSumsX, withSumsY, withSumsTau, columnSums, rowSums, rowsM, rowsOf, operatorsIn};
 
 // The absolute sums of the operator's columns, and of its rows.
 pub(crate) fn abssum<'a>(
@@ -26,12 +26,12 @@ pub(crate) fn abssum<'a>(
     requires { ⌜ LikeY shape (now sigma) ⌝ }
     ensures tau_left { λ _. ⌜
         now (tau .exit)
-        ≡ columnSums (embedIn shape (now (c .entry)) (slices (now (a1 .entry)) (now (a2 .entry))) (now (b .entry)))
+        ≡ columnSums (operatorsIn shape (now (c .entry)) (slices (now (a1 .entry)) (now (a2 .entry))) (now (b .entry)))
         (scaled +0 (now (tau .entry)))
         ⌝ }
     ensures sigma_left { λ _. ⌜
         now (sigma .exit)
-        ≡ rowSums (embedIn shape (now (c .entry)) (slices (now (a1 .entry)) (now (a2 .entry))) (now (b .entry)))
+        ≡ rowSums (operatorsIn shape (now (c .entry)) (slices (now (a1 .entry)) (now (a2 .entry))) (now (b .entry)))
         (scaled +0 (now (tau .entry)))
         ⌝ }
 {
@@ -52,7 +52,7 @@ fn column_sums<'a>(
     requires { ⌜ Fits shape (now c) (slices (now a1) (now a2)) (now b) ⌝ }
     requires { ⌜ LikeX shape (now tau) ⌝ }
     ensures { λ _. ⌜
-        now (tau .exit) ≡ columnSums (embedIn shape (now (c .entry))
+        now (tau .exit) ≡ columnSums (operatorsIn shape (now (c .entry))
         (slices (now (a1 .entry)) (now (a2 .entry))) (now (b .entry))) (now (tau .entry))
         ⌝ }
 {
@@ -71,7 +71,7 @@ fn sums_x<'a>(shape: Shape, c: &[f64], a1: &'a [f64], a2: &'a [f64], b: &[f64], 
     requires { ⌜ Fits shape (now c) (slices (now a1) (now a2)) (now b) ⌝ }
     requires { ⌜ length (now «tau_x») ≡ shape .cols .0 ⌝ }
     ensures { λ _. ⌜
-        now («tau_x» .exit) ≡ withSumsX (embedIn shape (now (c .entry))
+        now («tau_x» .exit) ≡ withSumsX (operatorsIn shape (now (c .entry))
         (slices (now (a1 .entry)) (now (a2 .entry))) (now (b .entry))) (now («tau_x» .entry))
         ⌝ }
 {
@@ -84,7 +84,7 @@ fn sums_y(shape: Shape, c: &[f64], a1: &[f64], a2: &[f64], b: &[f64], tau_y: &mu
     requires { ⌜ Fits shape (now c) (slices (now a1) (now a2)) (now b) ⌝ }
     requires { ⌜ length (now «tau_y») ≡ shape .rows .0 ⌝ }
     ensures { λ _. ⌜
-        now («tau_y» .exit) ≡ withSumsY (embedIn shape (now (c .entry))
+        now («tau_y» .exit) ≡ withSumsY (operatorsIn shape (now (c .entry))
         (slices (now (a1 .entry)) (now (a2 .entry))) (now (b .entry))) (now («tau_y» .entry))
         ⌝ }
 {
@@ -98,7 +98,7 @@ fn sums_tau(shape: Shape, c: &[f64], a1: &[f64], a2: &[f64], b: &[f64], tau_tau:
     requires { ⌜ length (now «tau_tau») ≡ 1 ⌝ }
     ensures { λ _. ⌜
         now («tau_tau» .exit)
-        ≡ withSumsTau (embedIn shape (now (c .entry)) (slices (now (a1 .entry)) (now (a2 .entry))) (now (b .entry)))
+        ≡ withSumsTau (operatorsIn shape (now (c .entry)) (slices (now (a1 .entry)) (now (a2 .entry))) (now (b .entry)))
         (now («tau_tau» .entry))
         ⌝ }
 {

@@ -50,5 +50,5 @@ pub fn prepare<'a>(
     if !calc_precond(par, shape, c, a1, a2, b, words, dp_tau, dp_sigma) {
         return Prepared::No;
     }
-    Prepared::Done(start::start(shape, c, a1, a2, b, x, y))
+    Prepared::Done(start::start(par.edition, shape, c, a1, a2, b, x, y))
 }

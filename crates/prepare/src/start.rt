@@ -11,12 +11,13 @@ ghost use Rattle.rules.specs.Helpers.{one};
 ghost use Rattle.rules.specs.Arithmetic.{+0};
 ghost use Rattle.rules.specs.Vectors.{scaled};
 ghost use Rattle.rules.specs.Problem.{slices, embedIn};
-ghost use Rattle.rules.specs.Prepare.{columnIn, withB, withC, frNorm, norms};
+ghost use Rattle.rules.specs.Prepare.{columnIn, withB, withC, frNormBy, norms};
 ghost use Rattle.shape.specs.Fitting.{Fits, LikeX};
 ghost use Rattle.prepare.specs.Prepare.{Started};
 
 // The norms of b, then c, for which the front of x is used; then x and y as they start.
 pub(crate) fn start(
+    edition: u32,
     shape: Shape,
     c: &[f64],
     a1: &[f64],
@@ -28,32 +29,40 @@ pub(crate) fn start(
     requires { ⌜ Fits shape (now c) (slices (now a1) (now a2)) (now b) ⌝ }
     requires { ⌜ LikeX shape (now x) ⌝ }
     ensures { λ r. ⌜
-        Started (embedIn shape (now (c .entry)) (slices (now (a1 .entry)) (now (a2 .entry)))
+        Started (embedIn edition shape (now (c .entry)) (slices (now (a1 .entry)) (now (a2 .entry)))
         (now (b .entry))) (now (x .entry))
         (now (y .entry)) r (now (x .exit)) (now (y .exit))
         ⌝ }
 {
-    let norms = calc_norms(shape, c, a1, a2, b, x);
+    let norms = calc_norms(edition, shape, c, a1, a2, b, x);
     init_vecs(shape, x, y);
     norms
 }
 
 // The norms of b, then c, worked out at the front of x.
-fn calc_norms(shape: Shape, c: &[f64], a1: &[f64], a2: &[f64], b: &[f64], x: &mut [f64]) -> Norms
+fn calc_norms(
+    edition: u32,
+    shape: Shape,
+    c: &[f64],
+    a1: &[f64],
+    a2: &[f64],
+    b: &[f64],
+    x: &mut [f64],
+) -> Norms
     requires { ⌜ Fits shape (now c) (slices (now a1) (now a2)) (now b) ⌝ }
     requires { ⌜ LikeX shape (now x) ⌝ }
     ensures x_left { λ _. ⌜
-        (let k = embedIn shape (now (c .entry)) (slices (now (a1 .entry)) (now (a2 .entry))) (now (b .entry)) in
+        (let k = embedIn edition shape (now (c .entry)) (slices (now (a1 .entry)) (now (a2 .entry))) (now (b .entry)) in
         now (x .exit)
         ≡ withC k (withB k (now (x .entry))))
         ⌝ }
     ensures norms_are { λ r. ⌜
-        r ≡ norms (embedIn shape (now (c .entry)) (slices (now (a1 .entry)) (now (a2 .entry)))
+        r ≡ norms (embedIn edition shape (now (c .entry)) (slices (now (a1 .entry)) (now (a2 .entry)))
         (now (b .entry))) (now (x .entry))
         ⌝ }
 {
-    let norm_b = norm_in(shape.rows.0, b, x);
-    let norm_c = norm_in(shape.cols.0, c, x);
+    let norm_b = norm_in(edition, shape.rows.0, b, x);
+    let norm_c = norm_in(edition, shape.cols.0, c, x);
     Norms {
         b: norm_b,
         c: norm_c,
@@ -61,32 +70,32 @@ fn calc_norms(shape: Shape, c: &[f64], a1: &[f64], a2: &[f64], b: &[f64], x: &mu
 }
 
 // The norm of the matrix of one column v, worked out at the front of x.
-fn norm_in(rows: usize, v: &[f64], x: &mut [f64]) -> f64
+fn norm_in(edition: u32, rows: usize, v: &[f64], x: &mut [f64]) -> f64
     requires { ⌜ length (now v) ≡ rows ⌝ }
     requires { ⌜ rows ≤ limit ⌝ }
     requires { ⌜ rows ≤ length (now x) ⌝ }
-    ensures x_left { λ _. ⌜ now (x .exit) ≡ columnIn rows (now (v .entry)) (take rows (now (x .entry))) ++ drop rows (now (x .entry)) ⌝ }
-    ensures norm { λ r. ⌜ r ≡ frNorm (take rows (now (x .exit))) ⌝ }
+    ensures x_left { λ _. ⌜ now (x .exit) ≡ columnIn edition rows (now (v .entry)) (take rows (now (x .entry))) ++ drop rows (now (x .entry)) ⌝ }
+    ensures norm { λ r. ⌜ r ≡ frNormBy edition (take rows (now (x .exit))) ⌝ }
 {
-    column_in(v, &mut x[0..rows]);
-    fr_norm(&x[0..rows])
+    column_in(edition, v, &mut x[0..rows]);
+    fr_norm(edition, &x[0..rows])
 }
 
 // t becomes the matrix of one column v times 1.
-fn column_in(v: &[f64], t: &mut [f64])
+fn column_in(edition: u32, v: &[f64], t: &mut [f64])
     requires { ⌜ length (now v) ≡ length (now t) ⌝ }
     requires { ⌜ length (now t) ≤ limit ⌝ }
-    ensures { λ _. ⌜ now (t .exit) ≡ columnIn (length (now (t .entry))) (now (v .entry)) (now (t .entry)) ⌝ }
+    ensures { λ _. ⌜ now (t .exit) ≡ columnIn edition (length (now (t .entry))) (now (v .entry)) (now (t .entry)) ⌝ }
 {
     let one = [1.0; 1];
     let k = column(t.len());
-    matop::op(k, 1.0, v, &one, 0.0, t);
+    matop_by::op_by(edition, k, 1.0, v, &one, 0.0, t);
 }
 
-fn fr_norm(t: &[f64]) -> f64
-    ensures { λ r. ⌜ r ≡ frNorm (now (t .entry)) ⌝ }
+fn fr_norm(edition: u32, t: &[f64]) -> f64
+    ensures { λ r. ⌜ r ≡ frNormBy edition (now (t .entry)) ⌝ }
 {
-    let norm = sums::norm(t);
+    let norm = norms::norm_by(edition, t);
     root::root(0.0 + norm * norm)
 }
 

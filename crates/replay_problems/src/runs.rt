@@ -32,11 +32,22 @@ const BLOCKS_AT: usize = 8;
 
 // Runs a record's problem and compares. The original ran it over the whole matrix, so a record says what comes of any cut.
 pub fn replay(record: &[u8], cut: Cut, a_room: &mut [f64]) -> Found {
-    replay_logged(record, &record[0..0], cut, a_room)
+    replay_with(record, &record[0..0], parameters(record), cut, a_room)
+}
+
+// The same in an edition of sums.
+pub fn replay_in(record: &[u8], edition: u32, cut: Cut, a_room: &mut [f64]) -> Found {
+    let par = SolverParam::with_edition(parameters(record), edition);
+    replay_with(record, &record[0..0], par, cut, a_room)
 }
 
 // The same with a progress record, of which the words after those of the run tell. Where there are none it is run without one.
 pub fn replay_logged(record: &[u8], log: &[u8], cut: Cut, a_room: &mut [f64]) -> Found {
+    let par = SolverParam::with_log_period(parameters(record), logs::period(log));
+    replay_with(record, log, par, cut, a_room)
+}
+
+fn replay_with(record: &[u8], log: &[u8], par: SolverParam, cut: Cut, a_room: &mut [f64]) -> Found {
     let blocks = record::size(record, BLOCKS_AT);
     if blocks > room::WORD_ROOM {
         return Found::Unknown;
@@ -53,6 +64,7 @@ pub fn replay_logged(record: &[u8], log: &[u8], cut: Cut, a_room: &mut [f64]) ->
     let agrees = takes(
         record,
         log,
+        par,
         cut,
         lent_at,
         c,
@@ -119,6 +131,7 @@ fn in_first(record: &[u8], cut: Cut, length: usize) -> usize {
 fn takes(
     record: &[u8],
     log: &[u8],
+    par: SolverParam,
     cut: Cut,
     lent_at: usize,
     c: Vector,
@@ -149,6 +162,7 @@ fn takes(
     lends(
         record,
         log,
+        par,
         cut,
         lent_at,
         &c_numbers[0..c_length],
@@ -171,6 +185,7 @@ fn first_again(v: Vector, k: usize) -> usize {
 fn lends(
     record: &[u8],
     log: &[u8],
+    par: SolverParam,
     cut: Cut,
     lent_at: usize,
     c: &[f64],
@@ -201,6 +216,7 @@ fn lends(
     agrees(
         record,
         log,
+        par,
         cut,
         std::num::wrapping_add_usize(lent_at, 3),
         patterns::pattern_of(before),
@@ -236,6 +252,7 @@ fn storage(record: &[u8]) -> Storage {
 // Runs the problem, its matrix cut or whole.
 fn run<'a>(
     record: &[u8],
+    par: SolverParam,
     cut: Cut,
     c: &[f64],
     a1: &'a [f64],
@@ -245,7 +262,6 @@ fn run<'a>(
     work: &mut [f64],
     cone_work: &mut [f64],
 ) -> Answer {
-    let par = parameters(record);
     let rows = Rows(record::size(record, 7));
     let cols = Cols(record::size(record, 6));
     match cut {
@@ -299,7 +315,7 @@ fn run<'a>(
 // The same with a progress record.
 fn run_logged<'a>(
     record: &[u8],
-    period: u32,
+    par: SolverParam,
     cut: Cut,
     c: &[f64],
     a1: &'a [f64],
@@ -310,7 +326,6 @@ fn run_logged<'a>(
     cone_work: &mut [f64],
     log: &mut [f64],
 ) -> Logged {
-    let par = SolverParam::with_log_period(parameters(record), period);
     let rows = Rows(record::size(record, 7));
     let cols = Cols(record::size(record, 6));
     match cut {
@@ -368,6 +383,7 @@ fn run_logged<'a>(
 fn agrees<'a>(
     record: &[u8],
     log: &[u8],
+    par: SolverParam,
     cut: Cut,
     answer_at: usize,
     before: u64,
@@ -381,12 +397,12 @@ fn agrees<'a>(
     lent_log: &mut [f64],
 ) -> bool {
     if log.len() == 0 {
-        let answer = run(record, cut, c, a1, a2, b, words, work, cone_work);
+        let answer = run(record, par, cut, c, a1, a2, b, words, work, cone_work);
         return is_answered(record, answer_at, before, answer, work, cone_work);
     }
     let logged = run_logged(
         record,
-        logs::period(log),
+        par,
         cut,
         c,
         a1,

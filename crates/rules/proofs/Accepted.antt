@@ -15,7 +15,7 @@ use Rattle.rules.specs.Projections.{sweepsFit}
 use Rattle.rules.specs.Product.{coneWork}
 use Rattle.rules.specs.Problem.{Problem, matrix, blocks, workLength}
 use Rattle.rules.specs.declared.Refusal.the-variants.{Accepted}
-use Rattle.rules.specs.Refusals.{isPacked, badTolerance, badParam, tooLarge, invalidOp, badCone, workShortage, refusal, readProblem, plainProblem}
+use Rattle.rules.specs.Refusals.{isPacked, isEdition, badTolerance, badParam, tooLarge, invalidOp, badCone, workShortage, refusal, readProblem, plainProblem}
 use Rattle.rules.proofs.Matrices.{neither}
 use Rattle.rules.proofs.Groups.{no-longer}
 use Rattle.rules.proofs.Refusals.{none-holds}
@@ -39,7 +39,8 @@ record ParamFits (par : SolverParam) : Type 0 where
 param-fits : (par : SolverParam) → badParam par ≡ false → ParamFits par
 unfolding badParam
 param-fits par e =
-    let f = neither (badTolerance par || ltb mostSteps (par .«max_iter»)) (not (sweepsFit par)) e in
+    let h = neither (badTolerance par || ltb mostSteps (par .«max_iter») || not (sweepsFit par)) (not (isEdition (par .«edition»))) e in
+    let f = neither (badTolerance par || ltb mostSteps (par .«max_iter»)) (not (sweepsFit par)) (h .0) in
     let g = neither (badTolerance par) (ltb mostSteps (par .«max_iter»)) (f .0) in
     let s = both (leb 1 (par .«sweep_limit»)) (leb (par .«sweep_limit») mostSweeps) (not-false (sweepsFit par) (f .1)) in
     record {

@@ -5,11 +5,14 @@ use mathlib.Core.Path.{_≡_, refl}
 use mathlib.Core.Logic.{_↔_}
 use mathlib.Core.Bool.{true, false}
 use mathlib.Core.List.{List}
+use lib.IntN.{ℤ}
 use lib.Ieee.{Float}
 use lib.ListN.{length}
 use Rattle.rules.specs.declared.Answer.{Answer}
 use Rattle.rules.specs.declared.Ending.{Ending}
 use Rattle.rules.specs.declared.Logged.{Logged}
+use Rattle.rules.specs.Arithmetic.{_+ᶠ_, +0}
+use Rattle.rules.specs.Editions.{sumByHalves, sumBy}
 use Rattle.rules.specs.Product.{Failure}
 use Rattle.rules.specs.Limits.{limit, mostDeep}
 use Rattle.rules.specs.Blocks.{readWord, isBadCone}
@@ -25,7 +28,7 @@ use Rattle.rules.specs.declared.Word.the-variants.{Bad}
 use Rattle.rules.specs.Refusals.{Fact, facts, tooLarge, badCone, refusal, readProblem, plainProblem, numberOf, turnedAway, solved, SolveOutcome}
 use Rattle.rules.specs.Split.{SplitProblem, slicesFit, joinedProblem, plainSplit, splitFacts, splitRefusal, splitSolved, SplitOutcome}
 use Rattle.rules.specs.Progress.{isDue, untouched, withLog, LoggedLeft, loggedSolved, splitLoggedSolved, LoggedAs, LoggedOutcome, SplitLoggedOutcome, Log, logFrom}
-use Rattle.rules.specs.Demands.{NoneHolds, NumberedFrom, GivenExactly, TurnedAwayExactly, SplitTurnedAwayExactly, AsJoinedOrInvalid, GoesByTheRules, EndsFirst, GoesOnExactly, ConvergedExactly, RotationsBounded, AnsweredByTheRules, OldContentsChangeNothing, SplitOldContentsChangeNothing, PlacesBeyondKept, SplitPlacesBeyondKept, withPeriod, withSplitPeriod, SameButForTheLog, DueStep, dueUpTo, RecordedByTheRules, OldContentsOfThree, SplitOldContentsOfThree}
+use Rattle.rules.specs.Demands.{NoneHolds, NumberedFrom, GivenExactly, TurnedAwayExactly, SplitTurnedAwayExactly, AsJoinedOrInvalid, GoesByTheRules, EndsFirst, GoesOnExactly, ConvergedExactly, RotationsBounded, AnsweredByTheRules, OldContentsChangeNothing, SplitOldContentsChangeNothing, PlacesBeyondKept, SplitPlacesBeyondKept, withPeriod, withSplitPeriod, SameButForTheLog, DueStep, dueUpTo, RecordedByTheRules, OldContentsOfThree, SplitOldContentsOfThree, IsWhole, wholeSum, WholeTerms}
 use Rattle.rules.proofs.Refusals as Refusals
 use Rattle.rules.proofs.Run as Run
 use Rattle.rules.proofs.Converged as Converged
@@ -43,6 +46,8 @@ use Rattle.rules.proofs.LoggedRuns as LoggedRuns
 use Rattle.rules.proofs.RecordedOnce as RecordedOnce
 use Rattle.rules.proofs.Progress as Progress
 use Rattle.rules.proofs.AnyPeriod as AnyPeriod
+use Rattle.rules.proofs.Editions as Editions
+use Rattle.rules.proofs.WholeSums as WholeSums
 
 -- ---- demand 1
 
@@ -289,3 +294,19 @@ split-old-contents-of-three = LoggedRuns.split-old-contents-of-three
 -- "That any pair of outcomes allowed by it coincide is itself proved": of one A and of one in two slices
 pub any-two-logged-outcomes-coincide : {left : LoggedLeft} {a a' : Logged} {w w' c c' l l' : List Float} → LoggedAs left a w c l → LoggedAs left a' w' c' l' → (a ≡ a') × (w ≡ w') × (c ≡ c') × (l ≡ l')
 any-two-logged-outcomes-coincide s t = LoggedRuns.any-two-logged-outcomes-coincide s t
+
+-- ---- request (xi): a second edition of sums
+
+-- "a range of one is its term, a longer range of length L is the sum of its first floor(L/2) and the sum of the rest, an empty one is +0"
+pub one-by-halves : (f : ℕ → Float) → sumByHalves 1 f ≡ f 0
+one-by-halves = Editions.one-by-halves
+
+pub more-by-halves : (n : ℕ) (f : ℕ → Float) → 2 ≤ n → sumByHalves n f ≡ sumByHalves (n / 2) f +ᶠ sumByHalves (n - n / 2) (λ k. f (n / 2 + k))
+more-by-halves = Editions.more-by-halves
+
+pub none-by-halves : (f : ℕ → Float) → sumByHalves 0 f ≡ +0
+none-by-halves = Editions.none-by-halves
+
+-- "Where all terms are whole and their absolute values sum to at most 2^53, prove both sums equal the exact whole number (−0 counting as 0)."
+pub whole-sums-exact : (edition n : ℕ) (f : ℕ → Float) (z : ℕ → ℤ) → WholeTerms n f z → IsWhole (sumBy edition n f) (wholeSum n z)
+whole-sums-exact = WholeSums.whole-sums-exact

@@ -14,8 +14,8 @@ use Rattle.rules.specs.declared.Cone.{Cone}
 use Rattle.rules.specs.declared.Cone.the-variants.{Zero, RPos, SOC, RotSOC, PSD}
 use Rattle.rules.specs.declared.SolverParam.{SolverParam}
 use Rattle.rules.specs.Arithmetic.{_*ᶠ_, +0}
-use Rattle.rules.specs.Vectors.{norm, scaled, added, shifted, transformedDi}
-use Rattle.rules.specs.Matrices.{triangle, isEmpty, transformed, opped, transOpped, absaddedCols, absaddedRows}
+use Rattle.rules.specs.Vectors.{normBy, scaled, added, shifted, transformedDi}
+use Rattle.rules.specs.Matrices.{triangle, isEmpty, transformedBy, oppedBy, transOppedBy, absaddedCols, absaddedRows}
 use Rattle.rules.specs.Blocks.{places, totalPlaces}
 use Rattle.rules.specs.Jacobi.{Rotating, Swept, isRotated, rotated, pairDone, rowDone, rowsDone, sweep, sweeps, jacobi}
 use Rattle.rules.specs.Projections.{Projected, √2, projZero, projRPos, projSOC, reflected, projRotSOC, diagonalTimes, unit, projPSD, projBlock, blockWork}
@@ -48,21 +48,22 @@ diagonal-length eps sums = simp each-length
 
 -- ---- matrices
 
-pub transformed-length : (alpha : Float) (entries : ℕ → ℕ → Float) (x : List Float) (beta : Float) (y : List Float) → length (transformed alpha entries x beta y) ≡ length y
-unfolding transformed
-transformed-length alpha entries x beta y = simp each-length
+-- by any edition
+pub transformed-length : (edition : ℕ) (alpha : Float) (entries : ℕ → ℕ → Float) (x : List Float) (beta : Float) (y : List Float) → length (transformedBy edition alpha entries x beta y) ≡ length y
+unfolding transformedBy
+transformed-length edition alpha entries x beta y = simp each-length
 
 either-length : (b : Bool) (v w : List Float) (n : ℕ) → length v ≡ n → length w ≡ n → length (cond b v w) ≡ n
 either-length true v w n h k = h
 either-length false v w n h k = k
 
-pub opped-length : (t : MatType) (alpha : Float) (mat x : List Float) (beta : Float) (y : List Float) → length (opped t alpha mat x beta y) ≡ length y
-unfolding opped
-opped-length t alpha mat x beta y = either-length (isEmpty t) _ _ (length y) (scaled-length beta y) (simp transformed-length)
+pub opped-length : (edition : ℕ) (t : MatType) (alpha : Float) (mat x : List Float) (beta : Float) (y : List Float) → length (oppedBy edition t alpha mat x beta y) ≡ length y
+unfolding oppedBy
+opped-length edition t alpha mat x beta y = either-length (isEmpty t) _ _ (length y) (scaled-length beta y) (simp transformed-length)
 
-pub transOpped-length : (t : MatType) (alpha : Float) (mat x : List Float) (beta : Float) (y : List Float) → length (transOpped t alpha mat x beta y) ≡ length y
-unfolding transOpped
-transOpped-length t alpha mat x beta y = either-length (isEmpty t) _ _ (length y) (scaled-length beta y) (simp transformed-length)
+pub transOpped-length : (edition : ℕ) (t : MatType) (alpha : Float) (mat x : List Float) (beta : Float) (y : List Float) → length (transOppedBy edition t alpha mat x beta y) ≡ length y
+unfolding transOppedBy
+transOpped-length edition t alpha mat x beta y = either-length (isEmpty t) _ _ (length y) (scaled-length beta y) (simp transformed-length)
 
 pub absaddedCols-length : (t : MatType) (mat y : List Float) → length (absaddedCols t mat y) ≡ length y
 unfolding absaddedCols
@@ -104,12 +105,12 @@ projRPos-length : (x : List Float) → length (projRPos x) ≡ length x
 unfolding projRPos
 projRPos-length x = simp each-length
 
-projSOC-length : (x : List Float) → length (projSOC x) ≡ length x
+projSOC-length : (edition : ℕ) (x : List Float) → length (projSOC edition x) ≡ length x
 unfolding projSOC
-projSOC-length [] = refl
-projSOC-length (s ∷ tail) =
-    either-length (le (norm tail) (neg s)) _ _ (suc (length tail)) (simp scaled-length)
-    (either-length (le (norm tail) s) _ _ (suc (length tail)) refl (simp scaled-length))
+projSOC-length edition [] = refl
+projSOC-length edition (s ∷ tail) =
+    either-length (le (normBy edition tail) (neg s)) _ _ (suc (length tail)) (simp scaled-length)
+    (either-length (le (normBy edition tail) s) _ _ (suc (length tail)) refl (simp scaled-length))
 
 reflected-length : (x : List Float) → length (reflected x) ≡ length x
 unfolding reflected
@@ -117,12 +118,12 @@ reflected-length [] = refl
 reflected-length (r ∷ []) = refl
 reflected-length (r ∷ s ∷ rest) = refl
 
-projRotSOC-length : (x : List Float) → length (projRotSOC x) ≡ length x
+projRotSOC-length : (edition : ℕ) (x : List Float) → length (projRotSOC edition x) ≡ length x
 unfolding projRotSOC
-projRotSOC-length [] = refl
-projRotSOC-length (r ∷ []) = refl
-projRotSOC-length (r ∷ s ∷ rest) =
-    reflected-length (projSOC (reflected (r ∷ s ∷ rest))) ∙ projSOC-length (reflected (r ∷ s ∷ rest)) ∙ reflected-length (r ∷ s ∷ rest)
+projRotSOC-length edition [] = refl
+projRotSOC-length edition (r ∷ []) = refl
+projRotSOC-length edition (r ∷ s ∷ rest) =
+    reflected-length (projSOC edition (reflected (r ∷ s ∷ rest))) ∙ projSOC-length edition (reflected (r ∷ s ∷ rest)) ∙ reflected-length (r ∷ s ∷ rest)
 
 -- ---- Jacobi's method
 
@@ -207,8 +208,8 @@ pub block-keeps : (par : SolverParam) (dual : Bool) (b : Cone) (x work : List Fl
 unfolding projBlock
 block-keeps par dual (Zero size) x work h = record { block = projZero-length dual x ∙ h; work = λ k. refl }
 block-keeps par dual (RPos size) x work h = record { block = projRPos-length x ∙ h; work = λ k. refl }
-block-keeps par dual (SOC size) x work h = record { block = projSOC-length x ∙ h; work = λ k. refl }
-block-keeps par dual (RotSOC size) x work h = record { block = projRotSOC-length x ∙ h; work = λ k. refl }
+block-keeps par dual (SOC size) x work h = record { block = projSOC-length (par .«edition») x ∙ h; work = λ k. refl }
+block-keeps par dual (RotSOC size) x work h = record { block = projRotSOC-length (par .«edition») x ∙ h; work = λ k. refl }
 block-keeps par dual (PSD order) x work h = psd-keeps par order x work
 
 -- ---- a pass over all blocks

@@ -73,14 +73,14 @@ module _ (k : Embed) (alpha : Float) (y : List Float) (beta : Float) (x : List F
   transX-length : length (transX k alpha y beta x) ≡ length (xX k x)
   unfolding transX
   transX-length =
-      opped-length (column (k .n)) (neg alpha) (k .c) (y1 k y) one (aTrans k (neg alpha) (yM k y) beta (xX k x))
-      ∙ transOpped-length (k .t) (neg alpha) (k .a) (yM k y) beta (xX k x)
+      opped-length (k .edition) (column (k .n)) (neg alpha) (k .c) (y1 k y) one (aTrans k (neg alpha) (yM k y) beta (xX k x))
+      ∙ transOpped-length (k .edition) (k .t) (neg alpha) (k .a) (yM k y) beta (xX k x)
 
   transY-length : length (transY k alpha y beta x) ≡ length (xY k x)
   unfolding transY
   transY-length =
-      opped-length (column (k .m)) (neg alpha) (k .b) (y1 k y) one (aOp k alpha (yN k y) beta (xY k x))
-      ∙ opped-length (k .t) alpha (k .a) (yN k y) beta (xY k x)
+      opped-length (k .edition) (column (k .m)) (neg alpha) (k .b) (y1 k y) one (aOp k alpha (yN k y) beta (xY k x))
+      ∙ opped-length (k .edition) (k .t) alpha (k .a) (yN k y) beta (xY k x)
 
   transS-length : length (transS k alpha y beta x) ≡ length (xS k x)
   unfolding transS
@@ -89,8 +89,8 @@ module _ (k : Embed) (alpha : Float) (y : List Float) (beta : Float) (x : List F
   transTau-length : length (transTau k alpha y beta x) ≡ length (xTau k x)
   unfolding transTau
   transTau-length =
-      transOpped-length (column (k .m)) alpha (k .b) (yM k y) one (cTrans k alpha (yN k y) beta (xTau k x))
-      ∙ transOpped-length (column (k .n)) alpha (k .c) (yN k y) beta (xTau k x)
+      transOpped-length (k .edition) (column (k .m)) alpha (k .b) (yM k y) one (cTrans k alpha (yN k y) beta (xTau k x))
+      ∙ transOpped-length (k .edition) (column (k .n)) alpha (k .c) (yN k y) beta (xTau k x)
 
   pub transOpK-length : length x ≡ lengthX (k .m) (k .n) → length (transOpK k alpha y beta x) ≡ lengthX (k .m) (k .n)
   transOpK-length h =
@@ -100,21 +100,21 @@ module _ (k : Embed) (alpha : Float) (x : List Float) (beta : Float) (y : List F
   opN-length : length (opN k alpha x beta y) ≡ length (yN k y)
   unfolding opN
   opN-length =
-      opped-length (column (k .n)) alpha (k .c) (xTau k x) one (aTrans k alpha (xY k x) beta (yN k y))
-      ∙ transOpped-length (k .t) alpha (k .a) (xY k x) beta (yN k y)
+      opped-length (k .edition) (column (k .n)) alpha (k .c) (xTau k x) one (aTrans k alpha (xY k x) beta (yN k y))
+      ∙ transOpped-length (k .edition) (k .t) alpha (k .a) (xY k x) beta (yN k y)
 
   opM-length : length (opM k alpha x beta y) ≡ length (yM k y)
   unfolding opM
   opM-length =
-      opped-length (column (k .m)) alpha (k .b) (xTau k x) one (added (neg alpha) (xS k x) (aOp k (neg alpha) (xX k x) beta (yM k y)))
+      opped-length (k .edition) (column (k .m)) alpha (k .b) (xTau k x) one (added (neg alpha) (xS k x) (aOp k (neg alpha) (xX k x) beta (yM k y)))
       ∙ added-length (neg alpha) (xS k x) (aOp k (neg alpha) (xX k x) beta (yM k y))
-      ∙ opped-length (k .t) (neg alpha) (k .a) (xX k x) beta (yM k y)
+      ∙ opped-length (k .edition) (k .t) (neg alpha) (k .a) (xX k x) beta (yM k y)
 
   op1-length : length (op1 k alpha x beta y) ≡ length (y1 k y)
   unfolding op1
   op1-length =
-      transOpped-length (column (k .m)) (neg alpha) (k .b) (xY k x) one (cTrans k (neg alpha) (xX k x) beta (y1 k y))
-      ∙ transOpped-length (column (k .n)) (neg alpha) (k .c) (xX k x) beta (y1 k y)
+      transOpped-length (k .edition) (column (k .m)) (neg alpha) (k .b) (xY k x) one (cTrans k (neg alpha) (xX k x) beta (y1 k y))
+      ∙ transOpped-length (k .edition) (column (k .n)) (neg alpha) (k .c) (xX k x) beta (y1 k y)
 
   pub opK-length : length y ≡ lengthY (k .m) (k .n) → length (opK k alpha x beta y) ≡ lengthY (k .m) (k .n)
   opK-length h = simp (length-append, opN-length, opM-length, op1-length) (omega (arith, yN-length k y h, yM-length k y h, y1-length k y h))
@@ -216,22 +216,22 @@ module _ (k : Embed) (x : List Float) where
   unfolding primalResidual
   primalResidual-length =
       let scale = reciprocal (tauOf k x) in
-      opped-length (k .t) scale (k .a) (xX k x) one (bOp k (neg one) (one ∷ []) scale (xS k x))
-      ∙ opped-length (column (k .m)) (neg one) (k .b) (one ∷ []) scale (xS k x)
+      opped-length (k .edition) (k .t) scale (k .a) (xX k x) one (bOp k (neg one) (one ∷ []) scale (xS k x))
+      ∙ opped-length (k .edition) (column (k .m)) (neg one) (k .b) (one ∷ []) scale (xS k x)
 
   dualResidual-length : (d : List Float) → length (dualResidual k x d) ≡ length d
   unfolding dualResidual
   dualResidual-length d =
-      transOpped-length (k .t) (reciprocal (tauOf k x)) (k .a) (xY k x) one (cOp k one (one ∷ []) +0 d)
-      ∙ opped-length (column (k .n)) one (k .c) (one ∷ []) +0 d
+      transOpped-length (k .edition) (k .t) (reciprocal (tauOf k x)) (k .a) (xY k x) one (cOp k one (one ∷ []) +0 d)
+      ∙ opped-length (k .edition) (column (k .n)) one (k .c) (one ∷ []) +0 d
 
   ray-length : length (ray k x) ≡ length (xS k x)
   unfolding ray
-  ray-length = opped-length (k .t) one (k .a) (xX k x) one (xS k x)
+  ray-length = opped-length (k .edition) (k .t) one (k .a) (xX k x) one (xS k x)
 
   dualRay-length : (d : List Float) → length (dualRay k x d) ≡ length d
   unfolding dualRay
-  dualRay-length d = transOpped-length (k .t) one (k .a) (xY k x) +0 d
+  dualRay-length d = transOpped-length (k .edition) (k .t) one (k .a) (xY k x) +0 d
 
 -- p and d stand at the front of rx
 pub withResiduals-length : (pri dual : List Float) (k : Embed) (rx : List Float) → length pri ≡ k .m → length dual ≡ k .n → length rx ≡ lengthX (k .m) (k .n) → length (withResiduals pri dual k rx) ≡ lengthX (k .m) (k .n)
@@ -274,21 +274,21 @@ whole-step-sized p ns s fit h =
 
 -- ---- what stands before the first step
 
-columnIn-length : (rows : ℕ) (v t : List Float) → length (columnIn rows v t) ≡ length t
+columnIn-length : (edition rows : ℕ) (v t : List Float) → length (columnIn edition rows v t) ≡ length t
 unfolding columnIn
-columnIn-length rows v t = opped-length (column rows) one v (one ∷ []) +0 t
+columnIn-length edition rows v t = opped-length edition (column rows) one v (one ∷ []) +0 t
 
 pub withB-length : (k : Embed) (x : List Float) → length (withB k x) ≡ length x
 unfolding withB
 withB-length k x =
-    length-append (columnIn (k .m) (k .b) (take (k .m) x)) (drop (k .m) x)
-    ∙ omega (arith, columnIn-length (k .m) (k .b) (take (k .m) x), length-take (k .m) x, length-drop (k .m) x)
+    length-append (columnIn (k .edition) (k .m) (k .b) (take (k .m) x)) (drop (k .m) x)
+    ∙ omega (arith, columnIn-length (k .edition) (k .m) (k .b) (take (k .m) x), length-take (k .m) x, length-drop (k .m) x)
 
 pub withC-length : (k : Embed) (x : List Float) → length (withC k x) ≡ length x
 unfolding withC
 withC-length k x =
-    length-append (columnIn (k .n) (k .c) (take (k .n) x)) (drop (k .n) x)
-    ∙ omega (arith, columnIn-length (k .n) (k .c) (take (k .n) x), length-take (k .n) x, length-drop (k .n) x)
+    length-append (columnIn (k .edition) (k .n) (k .c) (take (k .n) x)) (drop (k .n) x)
+    ∙ omega (arith, columnIn-length (k .edition) (k .n) (k .c) (take (k .n) x), length-take (k .n) x, length-drop (k .n) x)
 
 pub startX-length : (k : Embed) (x : List Float) → length (startX k x) ≡ length x
 unfolding startX

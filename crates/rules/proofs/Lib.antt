@@ -5,6 +5,8 @@ pub mod RootOnly
 pub mod RootPatterns
 pub mod EitherOrder
 pub mod Arithmetic
+pub mod Editions
+pub mod WholeSums
 pub mod Triangle
 pub mod Columns
 pub mod Jacobi

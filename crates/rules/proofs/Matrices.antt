@@ -17,8 +17,9 @@ use Rattle.rules.specs.Helpers.{magnitude}
 use Rattle.rules.specs.Vectors.{abssum}
 use Rattle.rules.specs.Limits.{limit}
 use Rattle.rules.specs.Arithmetic.{_+ᶠ_, _*ᶠ_, +0, at}
-use Rattle.rules.specs.Matrices.{nRow, nCol, storedLength, place, entry, entries, transposed, colSum, product, transformed, width, height, storedFits, Stored, lineFits, transformFits}
+use Rattle.rules.specs.Matrices.{nRow, nCol, storedLength, place, entry, entries, transposed, colSum, productBy, transformedBy, width, height, storedFits, Stored, lineFits, transformFits}
 use Rattle.rules.proofs.Arithmetic.{sum-none, sum-same, each-same}
+use Rattle.rules.proofs.Editions.{sum-by-same}
 use Rattle.rules.proofs.Vectors.{abssum-of-part, abssum-of-rest}
 use Rattle.rules.proofs.Columns.{packedPlace-mirrored, packedPlace-inside}
 
@@ -95,10 +96,11 @@ pub packed-fits : (transpose : Bool) (rows : Rows) (mat x y : List Float) → tr
 packed-fits true rows mat x y = refl
 packed-fits false rows mat x y = refl
 
-pub transformed-same : (alpha : Float) (e f : ℕ → ℕ → Float) (x : List Float) (beta : Float) (y : List Float) → ((r c : ℕ) → e r c ≡ f r c) → transformed alpha e x beta y ≡ transformed alpha f x beta y
-unfolding transformed
-transformed-same alpha e f x beta y h =
-    each-same (λ r v. alpha *ᶠ product e x r +ᶠ beta *ᶠ v) (λ r v. alpha *ᶠ product f x r +ᶠ beta *ᶠ v) y (λ r l. rw (sum-same +0 (λ c. e r c *ᶠ at x c) (λ c. f r c *ᶠ at x c) (length x) (λ c k. rw (h r c))))
+pub transformed-same : (edition : ℕ) (alpha : Float) (e f : ℕ → ℕ → Float) (x : List Float) (beta : Float) (y : List Float) → ((r c : ℕ) → e r c ≡ f r c) → transformedBy edition alpha e x beta y ≡ transformedBy edition alpha f x beta y
+unfolding transformedBy
+transformed-same edition alpha e f x beta y h =
+    each-same (λ r v. alpha *ᶠ productBy edition e x r +ᶠ beta *ᶠ v) (λ r v. alpha *ᶠ productBy edition f x r +ᶠ beta *ᶠ v) y
+    (λ r l. ap (λ s. alpha *ᶠ s +ᶠ beta *ᶠ at y r) (sum-by-same edition (λ c. e r c *ᶠ at x c) (λ c. f r c *ᶠ at x c) (length x) (λ c k. rw (h r c))))
 
 -- ---- what the tests of sizes say
 

@@ -125,8 +125,8 @@ unfolding hasSign root
 infinite-numbers-change-nothing x e = by (allFinite x) refl
   where
     sum-is : plainSum x ≡ inf false
-    sum-is = equals-infinite (plainSum x) (sym (plain-infinite x) ∙ e)
+    sum-is = equals-infinite (plainSum x) (sym (plain-infinite 1 x) ∙ e)
 
     by : (b : Bool) → allFinite x ≡ b → norm x ≡ scaledNorm x
-    by true g = norm-of-large x (sym (plain-infinite x) ∙ e) g
-    by false g = norm-of-not-finite x g ∙ ap (root binary64) sum-is ∙ sym (scaled-norm-infinite x (ap isPlus sum-is) g)
+    by true g = norm-of-large 1 x (sym (plain-infinite 1 x) ∙ e) g
+    by false g = norm-of-not-finite 1 x g ∙ ap (root binary64) sum-is ∙ sym (scaled-norm-infinite x (ap isPlus sum-is) g)

@@ -1,5 +1,5 @@
 -- Laws of the projections: what each kind's rule comes to, over the whole block.
-use Prim.Native.Nat.{suc, _-_, _≤_, _<_}
+use Prim.Native.Nat.{ℕ, suc, _-_, _≤_, _<_}
 use native.Mathlib.Omega.{arith}
 use mathlib.Core.Path.{_≡_, refl, sym, _∙_, ap}
 use mathlib.Core.Bool.{true, false}
@@ -9,7 +9,7 @@ use lib.ListN.{length, take, drop, set}
 use lib.Seq.{take-length, drop-length}
 use Rattle.rules.specs.Arithmetic.{_+ᶠ_, _-ᶠ_, _/ᶠ_, +0, at}
 use Rattle.rules.specs.Helpers.{one, larger}
-use Rattle.rules.specs.Vectors.{norm, scaled}
+use Rattle.rules.specs.Vectors.{normBy, scaled}
 use Rattle.rules.specs.Jacobi.{two}
 use Rattle.rules.specs.Root.{root}
 use Rattle.rules.specs.Projections.{√2, projSOC, reflected, projRotSOC}
@@ -33,34 +33,34 @@ rejoined-is s rest head tail =
     let e : suc (length rest) - 1 ≡ length rest = omega arith in
     rw (e, drop-length rest, append-nil)
 
-pub soc-none : (xs : List Float) → length xs ≤ 0 → xs ≡ projSOC xs
+pub soc-none : (edition : ℕ) (xs : List Float) → length xs ≤ 0 → xs ≡ projSOC edition xs
 unfolding projSOC
-soc-none [] h = refl
-soc-none (s ∷ rest) h = absurd (omega arith)
+soc-none edition [] h = refl
+soc-none edition (s ∷ rest) h = absurd (omega arith)
 
 -- what a block's norm, tests and new tail come to
-module _ (v : Float) (tail : List Float) where
-  pub soc-apex : (xs : List Float) → 0 < length xs → v ≡ norm (tailOf xs) → le v (neg (at xs 0)) ≡ true → tail ≡ scaled +0 (tailOf xs) → rejoined xs +0 tail ≡ projSOC xs
+module _ (edition : ℕ) (v : Float) (tail : List Float) where
+  pub soc-apex : (xs : List Float) → 0 < length xs → v ≡ normBy edition (tailOf xs) → le v (neg (at xs 0)) ≡ true → tail ≡ scaled +0 (tailOf xs) → rejoined xs +0 tail ≡ projSOC edition xs
   unfolding projSOC
   soc-apex [] h is below t = absurd (omega arith)
   soc-apex (s ∷ rest) h is below t =
-      let is' : v ≡ norm rest = rw (tail-is s rest) at is in
+      let is' : v ≡ normBy edition rest = rw (tail-is s rest) at is in
       let t' : tail ≡ scaled +0 rest = rw (tail-is s rest) at t in
       rejoined-is s rest +0 tail ∙ rw (← is', below, t')
 
-  pub soc-inside : (xs : List Float) → 0 < length xs → v ≡ norm (tailOf xs) → le v (neg (at xs 0)) ≡ false → le v (at xs 0) ≡ true → xs ≡ projSOC xs
+  pub soc-inside : (xs : List Float) → 0 < length xs → v ≡ normBy edition (tailOf xs) → le v (neg (at xs 0)) ≡ false → le v (at xs 0) ≡ true → xs ≡ projSOC edition xs
   unfolding projSOC
   soc-inside [] h is below inside = absurd (omega arith)
   soc-inside (s ∷ rest) h is below inside =
-      let is' : v ≡ norm rest = rw (tail-is s rest) at is in
+      let is' : v ≡ normBy edition rest = rw (tail-is s rest) at is in
       rw (← is', below, inside)
 
-  pub soc-outside : (xs : List Float) → 0 < length xs → v ≡ norm (tailOf xs) → le v (neg (at xs 0)) ≡ false → le v (at xs 0) ≡ false
-      → tail ≡ scaled ((one +ᶠ at xs 0 /ᶠ v) /ᶠ two) (tailOf xs) → rejoined xs ((v +ᶠ at xs 0) /ᶠ two) tail ≡ projSOC xs
+  pub soc-outside : (xs : List Float) → 0 < length xs → v ≡ normBy edition (tailOf xs) → le v (neg (at xs 0)) ≡ false → le v (at xs 0) ≡ false
+      → tail ≡ scaled ((one +ᶠ at xs 0 /ᶠ v) /ᶠ two) (tailOf xs) → rejoined xs ((v +ᶠ at xs 0) /ᶠ two) tail ≡ projSOC edition xs
   unfolding projSOC
   soc-outside [] h is below inside t = absurd (omega arith)
   soc-outside (s ∷ rest) h is below inside t =
-      let is' : v ≡ norm rest = rw (tail-is s rest) at is in
+      let is' : v ≡ normBy edition rest = rw (tail-is s rest) at is in
       let t' : tail ≡ scaled ((one +ᶠ s /ᶠ v) /ᶠ two) rest = rw (tail-is s rest) at t in
       rejoined-is s rest ((v +ᶠ s) /ᶠ two) tail ∙ rw (← is', below, inside, t')
 
@@ -86,23 +86,23 @@ reflected-more [] h = absurd (omega arith)
 reflected-more (r ∷ []) h = absurd (omega arith)
 reflected-more (r ∷ s ∷ rest) h = refl
 
-pub rotated-one : (xs : List Float) → length xs ≡ 1 → set xs 0 (larger (at xs 0) +0) ≡ projRotSOC xs
+pub rotated-one : (edition : ℕ) (xs : List Float) → length xs ≡ 1 → set xs 0 (larger (at xs 0) +0) ≡ projRotSOC edition xs
 unfolding projRotSOC
-rotated-one [] h = absurd (omega arith)
-rotated-one (r ∷ []) h = refl
-rotated-one (r ∷ s ∷ rest) h = absurd (omega arith)
+rotated-one edition [] h = absurd (omega arith)
+rotated-one edition (r ∷ []) h = refl
+rotated-one edition (r ∷ s ∷ rest) h = absurd (omega arith)
 
 -- a block of size 0 has nothing to do
-pub rotated-none : (xs : List Float) → length xs ≤ 0 → xs ≡ projRotSOC xs
+pub rotated-none : (edition : ℕ) (xs : List Float) → length xs ≤ 0 → xs ≡ projRotSOC edition xs
 unfolding projRotSOC
-rotated-none [] h = refl
-rotated-none (r ∷ rest) h = absurd (omega arith)
+rotated-none edition [] h = refl
+rotated-none edition (r ∷ rest) h = absurd (omega arith)
 
-pub rotated-more : (xs : List Float) → 1 < length xs → reflected (projSOC (reflected xs)) ≡ projRotSOC xs
+pub rotated-more : (edition : ℕ) (xs : List Float) → 1 < length xs → reflected (projSOC edition (reflected xs)) ≡ projRotSOC edition xs
 unfolding projRotSOC
-rotated-more [] h = absurd (omega arith)
-rotated-more (r ∷ []) h = absurd (omega arith)
-rotated-more (r ∷ s ∷ rest) h = refl
+rotated-more edition [] h = absurd (omega arith)
+rotated-more edition (r ∷ []) h = absurd (omega arith)
+rotated-more edition (r ∷ s ∷ rest) h = refl
 
 -- the first two of a block, put anew
 abbrev putTwo : Float → Float → List Float → List Float
@@ -115,15 +115,15 @@ put-reflected p q (r ∷ []) h = absurd (omega arith)
 put-reflected p q (r ∷ s ∷ rest) h = refl
 
 -- a block of two places or more: xs is reflected to ys and projected to zs
-module _ (xs : List Float) {ys zs : List Float} (h : 1 < length xs) (first : ys ≡ putTwo ((at xs 0 +ᶠ at xs 1) /ᶠ √2) ((at xs 0 -ᶠ at xs 1) /ᶠ √2) xs) (ruled : zs ≡ projSOC ys) where
-  projected : reflected zs ≡ reflected (projSOC (reflected xs))
-  projected = ap reflected ruled ∙ ap (λ (l : List Float). reflected (projSOC l)) (first ∙ reflected-more xs h)
+module _ (edition : ℕ) (xs : List Float) {ys zs : List Float} (h : 1 < length xs) (first : ys ≡ putTwo ((at xs 0 +ᶠ at xs 1) /ᶠ √2) ((at xs 0 -ᶠ at xs 1) /ᶠ √2) xs) (ruled : zs ≡ projSOC edition ys) where
+  projected : reflected zs ≡ reflected (projSOC edition (reflected xs))
+  projected = ap reflected ruled ∙ ap (λ (l : List Float). reflected (projSOC edition l)) (first ∙ reflected-more xs h)
 
-  pub rotated-outside : {ws : List Float} → ws ≡ reflected zs → ws ≡ reflected (projSOC (reflected xs))
+  pub rotated-outside : {ws : List Float} → ws ≡ reflected zs → ws ≡ reflected (projSOC edition (reflected xs))
   rotated-outside e = e ∙ projected
 
   -- a point that lies inside stays between the two
-  pub rotated-inside : zs ≡ ys → {ws : List Float} → (let p = (at xs 0 +ᶠ at xs 1) /ᶠ √2 in let q = (at xs 0 -ᶠ at xs 1) /ᶠ √2 in ws ≡ putTwo ((p +ᶠ q) /ᶠ √2) ((p -ᶠ q) /ᶠ √2) zs) → ws ≡ reflected (projSOC (reflected xs))
+  pub rotated-inside : zs ≡ ys → {ws : List Float} → (let p = (at xs 0 +ᶠ at xs 1) /ᶠ √2 in let q = (at xs 0 -ᶠ at xs 1) /ᶠ √2 in ws ≡ putTwo ((p +ᶠ q) /ᶠ √2) ((p -ᶠ q) /ᶠ √2) zs) → ws ≡ reflected (projSOC edition (reflected xs))
   rotated-inside kept e =
       let p = (at xs 0 +ᶠ at xs 1) /ᶠ √2 in
       let q = (at xs 0 -ᶠ at xs 1) /ᶠ √2 in

@@ -9,8 +9,8 @@ use Rattle.rules.specs.declared.Criteria.the-variants.{Conv, Inf}
 use Rattle.rules.specs.declared.Norms.{Norms}
 use Rattle.rules.specs.Helpers.{one, magnitude, reciprocal}
 use Rattle.rules.specs.Arithmetic.{_+ᶠ_, _*ᶠ_, _/ᶠ_, +0, at}
-use Rattle.rules.specs.Vectors.{norm}
-use Rattle.rules.specs.Matrices.{opped, transOpped}
+use Rattle.rules.specs.Vectors.{normBy}
+use Rattle.rules.specs.Matrices.{oppedBy, transOppedBy}
 use Rattle.rules.specs.Problem.{Embed}
 use Rattle.rules.specs.Step.{xX, xY, xS, part, aOp, aTrans, bOp, bTrans, cOp, cTrans}
 
@@ -26,22 +26,22 @@ withResiduals pri dual k rx = pri ++ dual ++ drop (k .m + k .n) rx
 
 module _ (k : Embed) (x : List Float) where
   unfoldable pub primalResidual : List Float
-  unfolding opped one neg reciprocal
+  unfolding oppedBy one neg reciprocal
   primalResidual =
       let scale = reciprocal (tauOf k x) in
       aOp k scale (xX k x) one (bOp k (neg one) (one ∷ []) scale (xS k x))
 
   unfoldable pub dualResidual : List Float → List Float
-  unfolding opped transOpped one reciprocal
+  unfolding oppedBy transOppedBy one reciprocal
   dualResidual d = aTrans k (reciprocal (tauOf k x)) (xY k x) one (cOp k one (one ∷ []) +0 d)
 
   -- the one-place vector starts at 1, and the second product multiplies what the first left by 0
   unfoldable pub gapX : List Float
-  unfolding transOpped one reciprocal
+  unfolding transOppedBy one reciprocal
   gapX = cTrans k (reciprocal (tauOf k x)) (xX k x) +0 (one ∷ [])
 
   unfoldable pub gapY : List Float
-  unfolding transOpped gapX reciprocal
+  unfolding transOppedBy gapX reciprocal
   gapY = bTrans k (reciprocal (tauOf k x)) (xY k x) +0 gapX
 
   unfoldable pub gap : Float
@@ -55,20 +55,20 @@ module _ (k : Embed) (x : List Float) where
 
 module _ (k : Embed) (x : List Float) where
   unfoldable pub ray : List Float
-  unfolding opped one
+  unfolding oppedBy one
   ray = aOp k one (xX k x) one (xS k x)
 
   unfoldable pub dualRay : List Float → List Float
-  unfolding transOpped one
+  unfolding transOppedBy one
   dualRay d = aTrans k one (xY k x) +0 d
 
   -- the one-place vector starts at 0
   unfoldable pub minusCX : List Float
-  unfolding transOpped one neg
+  unfolding transOppedBy one neg
   minusCX = cTrans k (neg one) (xX k x) +0 (+0 ∷ [])
 
   unfoldable pub minusBY : List Float
-  unfolding transOpped minusCX one neg
+  unfolding transOppedBy minusCX one neg
   minusBY = bTrans k (neg one) (xY k x) +0 minusCX
 
 -- a norm times another, over a number above eps_zero; infinite if it is not above
@@ -84,22 +84,22 @@ pub record Judged : Type 0 where
 
 -- where tau is above eps_zero, and where it is not
 unfoldable pub converging : Embed → Norms → List Float → List Float → Judged
-unfolding primalResidual dualResidual gap norm add div one
+unfolding primalResidual dualResidual gap normBy add div one
 converging k ns x rx =
     let pri = primalResidual k x in
     let dual = dualResidual k x (part (k .m) (k .n) rx) in
     record {
-      criteria = Conv (norm pri /ᶠ (one +ᶠ ns .b)) (norm dual /ᶠ (one +ᶠ ns .c)) (gap k x);
+      criteria = Conv (normBy (k .edition) pri /ᶠ (one +ᶠ ns .b)) (normBy (k .edition) dual /ᶠ (one +ᶠ ns .c)) (gap k x);
       rx = withResiduals pri dual k rx;
     }
 
 unfoldable pub diverging : Embed → Float → Norms → List Float → List Float → Judged
-unfolding ray dualRay minusCX minusBY ratio norm
+unfolding ray dualRay minusCX minusBY ratio normBy
 diverging k eps ns x rx =
     let pri = ray k x in
     let dual = dualRay k x (part (k .m) (k .n) rx) in
     record {
-      criteria = Inf (ratio eps (norm pri) (ns .c) (at (minusCX k x) 0)) (ratio eps (norm dual) (ns .b) (at (minusBY k x) 0));
+      criteria = Inf (ratio eps (normBy (k .edition) pri) (ns .c) (at (minusCX k x) 0)) (ratio eps (normBy (k .edition) dual) (ns .b) (at (minusBY k x) 0));
       rx = withResiduals pri dual k rx;
     }
 

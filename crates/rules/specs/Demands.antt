@@ -1,10 +1,11 @@
 -- The owner's demands, in words over the rules. `proofs/Demands.antt` proves them.
-use Prim.Native.Nat.{ℕ, zero, suc, _+_, _-_, _*_, _/_, _≤_, _<_, max, min}
+use Prim.Native.Nat.{ℕ, zero, suc, _+_, _-_, _*_, _/_, _^_, _≤_, _<_, max, min}
 use mathlib.Core.Path.{_≡_}
 use mathlib.Core.Logic.{_↔_, _⊎_}
 use mathlib.Core.Bool.{Bool, true, false, cond, _&&_, _||_}
 use mathlib.Core.List.{List, [], _∷_}
-use lib.Ieee.{Float, lt, le}
+use lib.IntN.{ℤ, pos, negℤ, natAbs, _+ℤ_, _*ℤ_}
+use lib.Ieee.{Float, nan, inf, fin, up, down, lt, le}
 use lib.ListN.{length, take, drop}
 use Rattle.rules.specs.declared.Cone.{Cone}
 use Rattle.rules.specs.declared.Cone.the-variants.{Zero, RPos, SOC, RotSOC, PSD}
@@ -326,3 +327,25 @@ OldContentsOfThree p work cone log work' cone' log' =
 abbrev pub SplitOldContentsOfThree : SplitProblem → List Float → List Float → List Float → List Float → List Float → List Float → Type 0
 SplitOldContentsOfThree p work cone log work' cone' log' =
     SameOverThree (workNeeded (joinedProblem p)) (coneNeeded (joinedProblem p)) log log' (splitLoggedSolved p work cone log) (splitLoggedSolved p work' cone' log')
+
+-- ---- request (xi): a second edition of sums
+
+-- The value of v is exactly the whole number z, "−0 counting as 0": v is m * 2 ^ e with its sign, and 2 ^ e is `up e / down e`.
+abbrev pub IsWhole : Float → ℤ → Type 0
+IsWhole nan z = ⊥
+IsWhole (inf sign) z = ⊥
+IsWhole (fin sign m e) z = cond sign (negℤ (pos (m * up e))) (pos (m * up e)) ≡ z *ℤ pos (down e)
+
+-- the exact sum of z 0, z 1, .. z (n - 1), and that of their absolute values
+unfoldable pub wholeSum : ℕ → (ℕ → ℤ) → ℤ
+wholeSum zero z = pos 0
+wholeSum (suc n) z = wholeSum n z +ℤ z n
+
+unfoldable pub absoluteSum : ℕ → (ℕ → ℤ) → ℕ
+absoluteSum zero z = 0
+absoluteSum (suc n) z = absoluteSum n z + natAbs (z n)
+
+-- "all terms are whole and their absolute values sum to at most 2^53": the n terms f 0, f 1, .. are z 0, z 1, ..
+pub record WholeTerms (n : ℕ) (f : ℕ → Float) (z : ℕ → ℤ) : Type 0 where
+  pub whole : (k : ℕ) → k < n → IsWhole (f k) (z k)
+  pub small : absoluteSum n z ≤ 2 ^ 53

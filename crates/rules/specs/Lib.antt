@@ -6,6 +6,7 @@ pub mod Growing
 pub mod Helpers
 pub mod Root
 pub mod Arithmetic
+pub mod Editions
 pub mod Vectors
 pub mod Matrices
 pub mod Blocks

@@ -11,6 +11,7 @@ use Rattle.rules.specs.declared.MatType.the-variants.{General, SymPack}
 use Rattle.rules.specs.Limits.{limit}
 use Rattle.rules.specs.Helpers.{magnitude}
 use Rattle.rules.specs.Arithmetic.{_+ᶠ_, _*ᶠ_, at, sumTo, sumFrom, each}
+use Rattle.rules.specs.Editions.{halved, sumBy}
 use Rattle.rules.specs.Vectors.{scaled}
 
 abbrev pub nRow : MatType → ℕ
@@ -58,26 +59,40 @@ height transpose t = cond transpose (nCol t) (nRow t)
 abbrev pub width : Bool → MatType → ℕ
 width transpose t = cond transpose (nRow t) (nCol t)
 
--- row r of the matrix times x
-abbrev pub product : (ℕ → ℕ → Float) → List Float → ℕ → Float
-product entries x r = sumTo (length x) (λ c. entries r c *ᶠ at x c)
+-- row r of the matrix times x, by edition
+abbrev pub productBy : ℕ → (ℕ → ℕ → Float) → List Float → ℕ → Float
+productBy edition entries x r = sumBy edition (length x) (λ c. entries r c *ᶠ at x c)
 
 -- alpha * (matrix times x) + beta * y: beta is multiplied even when it is 0
-unfoldable pub transformed : Float → (ℕ → ℕ → Float) → List Float → Float → List Float → List Float
-unfolding each sumFrom add mul
-transformed alpha entries x beta y = each (λ r v. alpha *ᶠ product entries x r +ᶠ beta *ᶠ v) y
+unfoldable pub transformedBy : ℕ → Float → (ℕ → ℕ → Float) → List Float → Float → List Float → List Float
+unfolding each sumFrom halved add mul
+transformedBy edition alpha entries x beta y = each (λ r v. alpha *ᶠ productBy edition entries x r +ᶠ beta *ᶠ v) y
 
 -- "A matrix with no rows or no columns only scales y by beta."
 abbrev pub isEmpty : MatType → Bool
 isEmpty t = eqb (nRow t) 0 || eqb (nCol t) 0
 
-unfoldable pub opped : MatType → Float → List Float → List Float → Float → List Float → List Float
-unfolding transformed scaled entry
-opped t alpha mat x beta y = cond (isEmpty t) (scaled beta y) (transformed alpha (entry t mat) x beta y)
+unfoldable pub oppedBy : ℕ → MatType → Float → List Float → List Float → Float → List Float → List Float
+unfolding transformedBy scaled entry
+oppedBy edition t alpha mat x beta y = cond (isEmpty t) (scaled beta y) (transformedBy edition alpha (entry t mat) x beta y)
 
-unfoldable pub transOpped : MatType → Float → List Float → List Float → Float → List Float → List Float
-unfolding transformed scaled entry
-transOpped t alpha mat x beta y = cond (isEmpty t) (scaled beta y) (transformed alpha (transposed (entry t mat)) x beta y)
+unfoldable pub transOppedBy : ℕ → MatType → Float → List Float → List Float → Float → List Float → List Float
+unfolding transformedBy scaled entry
+transOppedBy edition t alpha mat x beta y =
+    cond (isEmpty t) (scaled beta y) (transformedBy edition alpha (transposed (entry t mat)) x beta y)
+
+-- those of edition one
+abbrev pub product : (ℕ → ℕ → Float) → List Float → ℕ → Float
+product entries x r = productBy 1 entries x r
+
+abbrev pub transformed : Float → (ℕ → ℕ → Float) → List Float → Float → List Float → List Float
+transformed alpha entries x beta y = transformedBy 1 alpha entries x beta y
+
+abbrev pub opped : MatType → Float → List Float → List Float → Float → List Float → List Float
+opped t alpha mat x beta y = oppedBy 1 t alpha mat x beta y
+
+abbrev pub transOpped : MatType → Float → List Float → List Float → Float → List Float → List Float
+transOpped t alpha mat x beta y = transOppedBy 1 t alpha mat x beta y
 
 -- ---- absolute sums
 

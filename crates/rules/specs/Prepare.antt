@@ -7,8 +7,8 @@ use Rattle.rules.specs.declared.Norms.{Norms}
 use Rattle.rules.specs.Helpers.{one, larger, reciprocal}
 use Rattle.rules.specs.Root.{root}
 use Rattle.rules.specs.Arithmetic.{_+ᶠ_, _*ᶠ_, +0, each}
-use Rattle.rules.specs.Vectors.{norm, scaled, added, shifted}
-use Rattle.rules.specs.Matrices.{opped, absaddedCols, absaddedRows}
+use Rattle.rules.specs.Vectors.{normBy, scaled, added, shifted}
+use Rattle.rules.specs.Matrices.{oppedBy, absaddedCols, absaddedRows}
 use Rattle.rules.specs.Product.{groupAll, coneWork}
 use Rattle.rules.specs.Problem.{Problem, Embed, embed, column, blocks, lengthX, lengthY}
 use Rattle.rules.specs.Step.{State, xX, xY, xS, xTau}
@@ -17,27 +17,28 @@ abbrev pub zeros : ℕ → List Float
 zeros k = replicate k +0
 
 -- the Frobenius norm of a matrix of one column, which is worked out in t
-unfoldable pub columnIn : ℕ → List Float → List Float → List Float
-unfolding opped one
-columnIn rows v t = opped (column rows) one v (one ∷ []) +0 t
+unfoldable pub columnIn : ℕ → ℕ → List Float → List Float → List Float
+unfolding oppedBy one
+columnIn edition rows v t = oppedBy edition (column rows) one v (one ∷ []) +0 t
 
 -- request (ix) of document 02: "the Frobenius norm squares it again and may stay infinite"
-unfoldable pub frNorm : List Float → Float
-unfolding norm root add mul
-frNorm t = root binary64 (+0 +ᶠ norm t *ᶠ norm t)
+unfoldable pub frNormBy : ℕ → List Float → Float
+unfolding normBy root add mul
+frNormBy edition t = root binary64 (+0 +ᶠ normBy edition t *ᶠ normBy edition t)
 
 -- "Norms of b, then c, use the front of x."
 unfoldable pub withB : Embed → List Float → List Float
 unfolding columnIn
-withB k x = columnIn (k .m) (k .b) (take (k .m) x) ++ drop (k .m) x
+withB k x = columnIn (k .edition) (k .m) (k .b) (take (k .m) x) ++ drop (k .m) x
 
 unfoldable pub withC : Embed → List Float → List Float
 unfolding columnIn
-withC k x = columnIn (k .n) (k .c) (take (k .n) x) ++ drop (k .n) x
+withC k x = columnIn (k .edition) (k .n) (k .c) (take (k .n) x) ++ drop (k .n) x
 
 unfoldable pub norms : Embed → List Float → Norms
-unfolding withB withC frNorm
-norms k x = record { b = frNorm (take (k .m) (withB k x)); c = frNorm (take (k .n) (withC k (withB k x))) }
+unfolding withB withC frNormBy
+norms k x =
+    record { b = frNormBy (k .edition) (take (k .m) (withB k x)); c = frNormBy (k .edition) (take (k .n) (withC k (withB k x))) }
 
 -- "Then x and y are multiplied by 0 and tau is set to 1."
 unfoldable pub startX : Embed → List Float → List Float

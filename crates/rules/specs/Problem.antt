@@ -65,7 +65,7 @@ column rows = General (record { 0 = rows }) (record { 0 = 1 })
 abbrev pub matrix : Problem → MatType
 matrix p = matrixOf (p .storage) (p .m) (p .n)
 
--- SelfDualEmbed of the Rust: the three operators, with their sizes
+-- SelfDualEmbed of the Rust: the three operators, with their sizes, and the edition of their sums
 pub record Embed : Type 0 where
   pub m : ℕ
   pub n : ℕ
@@ -73,12 +73,13 @@ pub record Embed : Type 0 where
   pub c : List Float
   pub a : List Float
   pub b : List Float
+  pub edition : ℕ
 
 abbrev pub embed : Problem → Embed
-embed p = record { m = p .m; n = p .n; t = matrix p; c = p .c; a = p .a; b = p .b }
+embed p = record { m = p .m; n = p .n; t = matrix p; c = p .c; a = p .a; b = p .b; edition = p .par .«edition» }
 
-abbrev pub embedIn : Shape → List Float → Slices → List Float → Embed
-embedIn shape c a b =
+abbrev pub embedIn : ℕ → Shape → List Float → Slices → List Float → Embed
+embedIn edition shape c a b =
     record {
       m = shape .rows .0;
       n = shape .cols .0;
@@ -86,6 +87,7 @@ embedIn shape c a b =
       c = c;
       a = joined a;
       b = b;
+      edition = edition;
     }
 
 abbrev pub blocks : Problem → List Cone

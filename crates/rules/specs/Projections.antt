@@ -15,7 +15,7 @@ use Rattle.rules.specs.Limits.{limit}
 use Rattle.rules.specs.Helpers.{larger, one, reciprocal}
 use Rattle.rules.specs.Root.{root}
 use Rattle.rules.specs.Arithmetic.{_+ᶠ_, _-ᶠ_, _*ᶠ_, _/ᶠ_, +0, each, tabulate, byColumns}
-use Rattle.rules.specs.Vectors.{norm, scaled}
+use Rattle.rules.specs.Vectors.{normBy, scaled}
 use Rattle.rules.specs.Matrices.{entry}
 use Rattle.rules.specs.Blocks.{places}
 use Rattle.rules.specs.Jacobi.{two, packed, square, inPacked, inSquare, sweeps, jacobi}
@@ -31,12 +31,12 @@ unfoldable pub projRPos : List Float → List Float
 unfolding each larger
 projRPos x = each (λ k v. larger v +0) x
 
--- "Second-order, with norm v and head s: v ≤ −s multiplies the tail by 0 and sets the head to +0, else v ≤ s leaves it, else tail times (1 + s/v)/2 and head (v + s)/2."
-unfoldable pub projSOC : List Float → List Float
-unfolding norm scaled le neg one add div
-projSOC [] = []
-projSOC (s ∷ tail) =
-    let v = norm tail in
+-- By edition, as its norm is. "Second-order, with norm v and head s: v ≤ −s multiplies the tail by 0 and sets the head to +0, else v ≤ s leaves it, else tail times (1 + s/v)/2 and head (v + s)/2."
+unfoldable pub projSOC : ℕ → List Float → List Float
+unfolding normBy scaled le neg one add div
+projSOC edition [] = []
+projSOC edition (s ∷ tail) =
+    let v = normBy edition tail in
     cond (le v (neg s)) (+0 ∷ scaled +0 tail)
     (cond (le v s) (s ∷ tail)
     ((v +ᶠ s) /ᶠ two ∷ scaled ((one +ᶠ s /ᶠ v) /ᶠ two) tail))
@@ -52,11 +52,11 @@ reflected (r ∷ []) = r ∷ []
 reflected (r ∷ s ∷ rest) = (r +ᶠ s) /ᶠ √2 ∷ (r -ᶠ s) /ᶠ √2 ∷ rest
 
 -- "Rotated: size 1 is the larger of it and 0; otherwise (r+s)/√2 and (r−s)/√2 before and after."
-unfoldable pub projRotSOC : List Float → List Float
+unfoldable pub projRotSOC : ℕ → List Float → List Float
 unfolding larger projSOC reflected
-projRotSOC [] = []
-projRotSOC (r ∷ []) = larger r +0 ∷ []
-projRotSOC (r ∷ s ∷ rest) = reflected (projSOC (reflected (r ∷ s ∷ rest)))
+projRotSOC edition [] = []
+projRotSOC edition (r ∷ []) = larger r +0 ∷ []
+projRotSOC edition (r ∷ s ∷ rest) = reflected (projSOC edition (reflected (r ∷ s ∷ rest)))
 
 -- ---- semidefinite
 
@@ -109,8 +109,8 @@ unfoldable pub projBlock : SolverParam → Bool → Cone → List Float → List
 unfolding projZero projRPos projSOC projRotSOC projPSD
 projBlock par dual (Zero size) x work = plain (projZero dual x) work
 projBlock par dual (RPos size) x work = plain (projRPos x) work
-projBlock par dual (SOC size) x work = plain (projSOC x) work
-projBlock par dual (RotSOC size) x work = plain (projRotSOC x) work
+projBlock par dual (SOC size) x work = plain (projSOC (par .«edition») x) work
+projBlock par dual (RotSOC size) x work = plain (projRotSOC (par .«edition») x) work
 projBlock par dual (PSD order) x work = projPSD par order x work
 
 -- ---- what fits, and the complete outcome

@@ -45,11 +45,15 @@ badEps eps = not (isFinite eps) || lt eps +0
 abbrev pub badTolerance : SolverParam → Bool
 badTolerance par = badEps (par .«eps_acc») || badEps (par .«eps_inf») || badEps (par .«eps_zero»)
 
+-- the editions of sums
+abbrev pub isEdition : ℕ → Bool
+isEdition edition = eqb edition 1 || eqb edition 2
+
 -- 1: "an eps is not finite, eps_zero < 0, max_iter or sweep limit outside its range"; by request (ii) of document 02 "also given when eps_acc or
--- eps_inf is below zero; −0 is still taken"
+-- eps_inf is below zero; −0 is still taken", and by (xi) "Any other edition number is BadParam."
 unfoldable pub badParam : SolverParam → Bool
 unfolding lt
-badParam par = badTolerance par || ltb mostSteps (par .«max_iter») || not (sweepsFit par)
+badParam par = badTolerance par || ltb mostSteps (par .«max_iter») || not (sweepsFit par) || not (isEdition (par .«edition»))
 
 -- 2: "n or m above 256, or more than 32 cone words"; by request (vii) of document 02 "TooLarge moves to 1,025 and 129", and by
 -- (viii) "Group words count toward the list's limit"

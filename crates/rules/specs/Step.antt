@@ -7,7 +7,7 @@ use lib.ListN.{take, drop, set}
 use Rattle.rules.specs.Helpers.{one, larger, smaller}
 use Rattle.rules.specs.Arithmetic.{_-ᶠ_, +0, at}
 use Rattle.rules.specs.Vectors.{scaled, added, transformedDi}
-use Rattle.rules.specs.Matrices.{opped, transOpped}
+use Rattle.rules.specs.Matrices.{oppedBy, transOppedBy}
 use Rattle.rules.specs.Product.{Failure, Passed, projAll, isNone}
 use Rattle.rules.specs.Problem.{Problem, Embed, embed, column, blocks, lengthY}
 
@@ -53,22 +53,22 @@ module _ (k : Embed) (v : List Float) where
 -- c, A and b, and the three transposed: alpha * (matrix times u) + beta * v
 module _ (k : Embed) (alpha : Float) (u : List Float) (beta : Float) (v : List Float) where
   abbrev pub cOp : List Float
-  cOp = opped (column (k .n)) alpha (k .c) u beta v
+  cOp = oppedBy (k .edition) (column (k .n)) alpha (k .c) u beta v
 
   abbrev pub aOp : List Float
-  aOp = opped (k .t) alpha (k .a) u beta v
+  aOp = oppedBy (k .edition) (k .t) alpha (k .a) u beta v
 
   abbrev pub bOp : List Float
-  bOp = opped (column (k .m)) alpha (k .b) u beta v
+  bOp = oppedBy (k .edition) (column (k .m)) alpha (k .b) u beta v
 
   abbrev pub cTrans : List Float
-  cTrans = transOpped (column (k .n)) alpha (k .c) u beta v
+  cTrans = transOppedBy (k .edition) (column (k .n)) alpha (k .c) u beta v
 
   abbrev pub aTrans : List Float
-  aTrans = transOpped (k .t) alpha (k .a) u beta v
+  aTrans = transOppedBy (k .edition) (k .t) alpha (k .a) u beta v
 
   abbrev pub bTrans : List Float
-  bTrans = transOpped (column (k .m)) alpha (k .b) u beta v
+  bTrans = transOppedBy (k .edition) (column (k .m)) alpha (k .b) u beta v
 
 -- SelfDualEmbed::op, from a vector like x to one like y: what each part of it becomes, from what it holds
 module _ (k : Embed) (alpha : Float) (x : List Float) (beta : Float) (v : List Float) where
@@ -83,15 +83,15 @@ module _ (k : Embed) (alpha : Float) (x : List Float) (beta : Float) (v : List F
 
 module _ (k : Embed) (alpha : Float) (x : List Float) (beta : Float) (y : List Float) where
   unfoldable pub opN : List Float
-  unfolding opped transOpped one
+  unfolding oppedBy transOppedBy one
   opN = onN k alpha x beta (yN k y)
 
   unfoldable pub opM : List Float
-  unfolding opped added neg one
+  unfolding oppedBy added neg one
   opM = onM k alpha x beta (yM k y)
 
   unfoldable pub op1 : List Float
-  unfolding transOpped neg one
+  unfolding transOppedBy neg one
   op1 = on1 k alpha x beta (y1 k y)
 
   abbrev pub opK : List Float
@@ -113,11 +113,11 @@ module _ (k : Embed) (alpha : Float) (y : List Float) (beta : Float) (v : List F
 
 module _ (k : Embed) (alpha : Float) (y : List Float) (beta : Float) (x : List Float) where
   unfoldable pub transX : List Float
-  unfolding opped transOpped neg one
+  unfolding oppedBy transOppedBy neg one
   transX = backX k alpha y beta (xX k x)
 
   unfoldable pub transY : List Float
-  unfolding opped neg one
+  unfolding oppedBy neg one
   transY = backY k alpha y beta (xY k x)
 
   unfoldable pub transS : List Float
@@ -125,7 +125,7 @@ module _ (k : Embed) (alpha : Float) (y : List Float) (beta : Float) (x : List F
   transS = backS k alpha y beta (xS k x)
 
   unfoldable pub transTau : List Float
-  unfolding transOpped one
+  unfolding transOppedBy one
   transTau = backTau k alpha y beta (xTau k x)
 
   abbrev pub transOpK : List Float

@@ -9,6 +9,7 @@ use lib.ListN.{length}
 use Rattle.rules.specs.Helpers.{magnitude, isInfinite, allFinite}
 use Rattle.rules.specs.Root.{root}
 use Rattle.rules.specs.Arithmetic.{_+ᶠ_, _*ᶠ_, +0, at, sumTo, sumFrom, each}
+use Rattle.rules.specs.Editions.{halved, sumBy}
 
 abbrev pub sameLength : List Float → List Float → Bool
 sameLength x y = eqb (length x) (length y)
@@ -17,12 +18,12 @@ unfoldable pub scaled : Float → List Float → List Float
 unfolding each mul
 scaled alpha x = each (λ k v. alpha *ᶠ v) x
 
--- the plain sum of squares, and the plain norm
-abbrev pub plainSum : List Float → Float
-plainSum x = sumTo (length x) (λ k. at x k *ᶠ at x k)
+-- the plain sum of squares, and the plain norm, by edition
+abbrev pub plainSumBy : ℕ → List Float → Float
+plainSumBy edition x = sumBy edition (length x) (λ k. at x k *ᶠ at x k)
 
-abbrev pub plainNorm : List Float → Float
-plainNorm x = root binary64 (plainSum x)
+abbrev pub plainNormBy : ℕ → List Float → Float
+plainNormBy edition x = root binary64 (plainSumBy edition x)
 
 -- 2 ^ 600, and 2 ^ -600 (`negsuc k` is the whole number -(k + 1))
 abbrev pub two^600 : Float
@@ -33,12 +34,26 @@ two^−600 = fin false 1 (negsuc 599)
 
 -- Request (ix) of document 02: "if the plain sum is infinite while all entries are finite, it multiplies entries by 2^−600, takes the plain norm and
 -- multiplies by 2^600, each rounding as usual; it may still be infinite. Otherwise it is unchanged." A sum of squares is never −∞ (`plain-infinite`, proofs/LargeNorms.antt).
-abbrev pub scaledNorm : List Float → Float
-scaledNorm x = plainNorm (scaled two^−600 x) *ᶠ two^600
+-- Each edition asks and takes its own sums.
+abbrev pub scaledNormBy : ℕ → List Float → Float
+scaledNormBy edition x = plainNormBy edition (scaled two^−600 x) *ᶠ two^600
 
-unfoldable pub norm : List Float → Float
-unfolding sumFrom root mul scaled allFinite
-norm x = cond (isInfinite (plainSum x) && allFinite x) (scaledNorm x) (plainNorm x)
+unfoldable pub normBy : ℕ → List Float → Float
+unfolding sumFrom halved root mul scaled allFinite
+normBy edition x = cond (isInfinite (plainSumBy edition x) && allFinite x) (scaledNormBy edition x) (plainNormBy edition x)
+
+-- those of edition one
+abbrev pub plainSum : List Float → Float
+plainSum x = plainSumBy 1 x
+
+abbrev pub plainNorm : List Float → Float
+plainNorm x = plainNormBy 1 x
+
+abbrev pub scaledNorm : List Float → Float
+scaledNorm x = scaledNormBy 1 x
+
+abbrev pub norm : List Float → Float
+norm x = normBy 1 x
 
 unfoldable pub added : Float → List Float → List Float → List Float
 unfolding each add mul

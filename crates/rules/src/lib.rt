@@ -1,7 +1,7 @@
 // What is right. The rules stand in specs/, in document 01's order and words; this file declares
 // the types that the rules and the code share.
 ghost use mathlib.Core.Path.{_≡_};
-ghost use Rattle.rules.specs.Parameters.{paramMade, paramOf, withEpsZero, withLogPeriod, defaults};
+ghost use Rattle.rules.specs.Parameters.{paramMade, paramOf, withEpsZero, withLogPeriod, withEdition, defaults};
 
 // The most rows and the most columns of a matrix, which are the largest m and n.
 pub const LIMIT: usize = 1024;
@@ -71,6 +71,8 @@ pub struct SolverParam {
     pub sweep_limit: u64,
     // Which steps a progress record has: 1, 1 + log_period, 1 + 2 * log_period and so on; 0 means none.
     pub log_period: u32,
+    // How norms and matrix products are added up: 1 from the left, 2 by halves.
+    pub edition: u32,
 }
 
 impl SolverParam {
@@ -93,7 +95,7 @@ impl SolverParam {
         )
     }
 
-    // The parameters with these limits and tolerances, and no progress record.
+    // The parameters with these limits and tolerances, no progress record, and edition one.
     pub fn of(
         max_iter: u64,
         eps_acc: f64,
@@ -103,7 +105,7 @@ impl SolverParam {
     ) -> SolverParam
         ensures { λ r. ⌜ r ≡ paramOf «max_iter» «eps_acc» «eps_inf» «eps_zero» «sweep_limit» ⌝ }
     {
-        SolverParam::made(max_iter, eps_acc, eps_inf, eps_zero, sweep_limit, 0)
+        SolverParam::made(max_iter, eps_acc, eps_inf, eps_zero, sweep_limit, 0, 1)
     }
 
     // The same parameters but for eps_zero.
@@ -117,6 +119,7 @@ impl SolverParam {
             eps,
             par.sweep_limit,
             par.log_period,
+            par.edition,
         )
     }
 
@@ -131,6 +134,23 @@ impl SolverParam {
             par.eps_zero,
             par.sweep_limit,
             period,
+            par.edition,
+        )
+    }
+
+    // The same parameters but for the edition.
+    pub fn with_edition(par: SolverParam, number: u32) -> SolverParam
+        ensures { λ r. ⌜ r ≡ withEdition par number ⌝ }
+    {
+        let zero = par.eps_zero;
+        SolverParam::made(
+            par.max_iter,
+            par.eps_acc,
+            par.eps_inf,
+            zero,
+            par.sweep_limit,
+            par.log_period,
+            number,
         )
     }
 
@@ -142,8 +162,9 @@ impl SolverParam {
         eps_zero: f64,
         sweep_limit: u64,
         log_period: u32,
+        edition: u32,
     ) -> SolverParam
-        ensures { λ r. ⌜ r ≡ paramMade «max_iter» «eps_acc» «eps_inf» «eps_zero» «sweep_limit» «log_period» ⌝ }
+        ensures { λ r. ⌜ r ≡ paramMade «max_iter» «eps_acc» «eps_inf» «eps_zero» «sweep_limit» «log_period» edition ⌝ }
     {
         SolverParam {
             max_iter,
@@ -152,6 +173,7 @@ impl SolverParam {
             eps_zero,
             sweep_limit,
             log_period,
+            edition,
         }
     }
 }

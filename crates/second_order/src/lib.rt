@@ -12,15 +12,15 @@ ghost use Rattle.rules.specs.Outcome.{Outcome};
 ghost use Rattle.rules.specs.Projections.{projSOC, reflected, projRotSOC};
 
 // By the head and the norm of the tail. It tells whether the point lies inside, and stays.
-fn proj_inside(x: &mut [f64]) -> bool
-    ensures { λ _. ⌜ now (x .exit) ≡ projSOC (now (x .entry)) ⌝ }
+fn proj_inside(edition: u32, x: &mut [f64]) -> bool
+    ensures { λ _. ⌜ now (x .exit) ≡ projSOC edition (now (x .entry)) ⌝ }
     ensures { λ r. ⌜ (r ≡ true → now (x .exit) ≡ now (x .entry)) ⌝ }
 {
     if x.len() == 0 {
         return true;
     }
     let s = x[0];
-    let v = sums::norm(&x[1..]);
+    let v = norms::norm_by(edition, &x[1..]);
     if v <= -s {
         linalg::scale(0.0, &mut x[1..]);
         x[0] = 0.0;
@@ -35,13 +35,13 @@ fn proj_inside(x: &mut [f64]) -> bool
 }
 
 // The second-order cone. Where there are more places than a block may have, it answers no and changes nothing.
-pub fn proj_soc(x: &mut [f64]) -> bool
-    ensures { λ r. ⌜ Outcome (leb (length (now (x .entry))) limit) (projSOC (now (x .entry))) (now (x .entry)) r (now (x .exit)) ⌝ }
+pub fn proj_soc(edition: u32, x: &mut [f64]) -> bool
+    ensures { λ r. ⌜ Outcome (leb (length (now (x .entry))) limit) (projSOC edition (now (x .entry))) (now (x .entry)) r (now (x .exit)) ⌝ }
 {
     if x.len() > LIMIT {
         return false;
     }
-    proj_inside(x);
+    proj_inside(edition, x);
     true
 }
 
@@ -66,9 +66,9 @@ fn reflect(x: &mut [f64])
 }
 
 // The second-order cone, reflected. A point that lies inside is reflected twice all the same, and both reflections round.
-fn proj_reflected(x: &mut [f64])
+fn proj_reflected(edition: u32, x: &mut [f64])
     requires { ⌜ 1 < length (now x) ⌝ }
-    ensures { λ _. ⌜ now (x .exit) ≡ reflected (projSOC (reflected (now (x .entry)))) ⌝ }
+    ensures { λ _. ⌜ now (x .exit) ≡ reflected (projSOC edition (reflected (now (x .entry)))) ⌝ }
 {
     let r = x[0];
     let s = x[1];
@@ -76,7 +76,7 @@ fn proj_reflected(x: &mut [f64])
     let p = (r + s) / root;
     let q = (r - s) / root;
     put_two(p, q, x);
-    if proj_inside(x) {
+    if proj_inside(edition, x) {
         put_two((p + q) / root, (p - q) / root, x);
     } else {
         reflect(x);
@@ -84,25 +84,25 @@ fn proj_reflected(x: &mut [f64])
 }
 
 // A block of one place is nonnegative, and one of none has nothing to do.
-fn proj_rotated(x: &mut [f64])
-    ensures { λ _. ⌜ now (x .exit) ≡ projRotSOC (now (x .entry)) ⌝ }
+fn proj_rotated(edition: u32, x: &mut [f64])
+    ensures { λ _. ⌜ now (x .exit) ≡ projRotSOC edition (now (x .entry)) ⌝ }
 {
     if x.len() == 1 {
         x[0] = float::larger(x[0], 0.0);
     } else {
         if 1 < x.len() {
-            proj_reflected(x);
+            proj_reflected(edition, x);
         }
     }
 }
 
 // The rotated second-order cone. Where there are more places than a block may have, it answers no and changes nothing.
-pub fn proj_rotsoc(x: &mut [f64]) -> bool
-    ensures { λ r. ⌜ Outcome (leb (length (now (x .entry))) limit) (projRotSOC (now (x .entry))) (now (x .entry)) r (now (x .exit)) ⌝ }
+pub fn proj_rotsoc(edition: u32, x: &mut [f64]) -> bool
+    ensures { λ r. ⌜ Outcome (leb (length (now (x .entry))) limit) (projRotSOC edition (now (x .entry))) (now (x .entry)) r (now (x .exit)) ⌝ }
 {
     if LIMIT < x.len() {
         return false;
     }
-    proj_rotated(x);
+    proj_rotated(edition, x);
     true
 }

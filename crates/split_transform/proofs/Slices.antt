@@ -13,7 +13,7 @@ use Rattle.rules.specs.declared.Rows.{Rows}
 use Rattle.rules.specs.declared.Cols.{Cols}
 use Rattle.rules.specs.Limits.{limit}
 use Rattle.rules.specs.Arithmetic.{_+ᶠ_, _*ᶠ_, +0, at, sumFrom, each}
-use Rattle.rules.specs.Matrices.{width, height, entry, transposed, product, transformed}
+use Rattle.rules.specs.Matrices.{width, height, entry, transposed, product, transformed, transformedBy}
 use Rattle.rules.specs.Split.{splitTransformFits, SplitStored}
 use Rattle.rules.proofs.Arithmetic.{sum-same, each-same}
 use Rattle.rules.proofs.Matrices.{both-true}
@@ -95,7 +95,7 @@ module _ {rows : Rows} {cols first : Cols} {factory lesson : List Float} (s : Sp
         → p ≡ columnsOf alpha (rows .0) factory x beta (take (first .0 - 0) (drop 0 y))
         → q ≡ columnsOf alpha (rows .0) lesson x beta (take (cols .0 - first .0) (drop (first .0) (put 0 (first .0) y p)))
         → put (first .0) (cols .0) (put 0 (first .0) y p) q ≡ transformed alpha (transposed (entry (General rows cols) (factory ++ lesson))) x beta y
-    unfolding transformed
+    unfolding transformedBy
     columns-put alpha beta q long p-is q-is =
         let front : length (take (first .0) y) ≡ first .0 = length-take-le (first .0) y (omega (arith, s .cut)) in
         let p-of-front = rw (from-start (first .0)) at p-is in

@@ -35,12 +35,12 @@ module _ (e : ℕ) (w ys : List Float) (inside : e ≤ length w) (as-many : leng
 
 -- ---- what is left by the calls of a move, whose sizes fit, is the moved vectors
 
-module _ {shape : Shape} {c : List Float} {a : Slices} {b x y dpTau rx tx : List Float} {copied transed moved : Bool} {rx₁ tx₁ x₁ : List Float} where
+module _ {edition : ℕ} {shape : Shape} {c : List Float} {a : Slices} {b x y dpTau rx tx : List Float} {copied transed moved : Bool} {rx₁ tx₁ x₁ : List Float} where
   pub x-moved : CanMoveX shape c a b x y dpTau rx tx
       → Outcome (sameLength x rx) x rx copied rx₁
-      → Outcome (embedFits shape c a b tx y) (transOpK (embedIn shape c a b) (neg one) y +0 tx) tx transed tx₁ → length tx₁ ≡ length tx
+      → Outcome (embedFits shape c a b tx y) (transOpK (embedIn edition shape c a b) (neg one) y +0 tx) tx transed tx₁ → length tx₁ ≡ length tx
       → Outcome (sameLength dpTau x && sameLength tx₁ x) (transformedDi one dpTau tx₁ one x) x moved x₁
-      → XMoved (embedIn shape c a b) x y dpTau tx x₁ rx₁ tx₁
+      → XMoved (embedIn edition shape c a b) x y dpTau tx x₁ rx₁ tx₁
   x-moved f copies transes kept moves =
       let second = ruled-if-fits transes (embed-fits (f .operators) (f .tx-like) (f .y-like)) in
       let third = di-ruled dpTau tx₁ moves (f .tau-like .is ∙ sym (f .x-like .is)) (kept ∙ f .tx-like .is ∙ sym (f .x-like .is)) in
@@ -50,13 +50,13 @@ module _ {shape : Shape} {c : List Float} {a : Slices} {b x y dpTau rx tx : List
 abbrev frontEnd : Shape → ℕ
 frontEnd shape = lengthY (shape .rows .0) (shape .cols .0)
 
-module _ {shape : Shape} {c : List Float} {a : Slices} {b x y dpSigma rx tx : List Float} {summed opped moved : Bool} {rx₁ ty y₁ : List Float} {last : Float} where
+module _ {edition : ℕ} {shape : Shape} {c : List Float} {a : Slices} {b x y dpSigma rx tx : List Float} {summed opped moved : Bool} {rx₁ ty y₁ : List Float} {last : Float} where
   pub y-moved : CanMoveY shape c a b x y dpSigma rx tx
       → Outcome (sameLength x rx) (added (neg one -ᶠ one) x rx) rx summed rx₁ → length rx₁ ≡ length rx
-      → Outcome (embedFits shape c a b rx₁ (take (frontEnd shape - 0) (drop 0 tx))) (opK (embedIn shape c a b) (neg one) rx₁ +0 (take (frontEnd shape - 0) (drop 0 tx))) (take (frontEnd shape - 0) (drop 0 tx)) opped ty → length ty ≡ length (take (frontEnd shape - 0) (drop 0 tx))
+      → Outcome (embedFits shape c a b rx₁ (take (frontEnd shape - 0) (drop 0 tx))) (opK (embedIn edition shape c a b) (neg one) rx₁ +0 (take (frontEnd shape - 0) (drop 0 tx))) (take (frontEnd shape - 0) (drop 0 tx)) opped ty → length ty ≡ length (take (frontEnd shape - 0) (drop 0 tx))
       → Outcome (sameLength dpSigma y && sameLength (take (frontEnd shape - 0) (drop 0 (put 0 (frontEnd shape) tx ty))) y) (transformedDi one dpSigma (take (frontEnd shape - 0) (drop 0 (put 0 (frontEnd shape) tx ty))) one y) y moved y₁
       → last ≡ smaller (at y₁ (shape .cols .0 + shape .rows .0)) +0
-      → YMoved (embedIn shape c a b) x y dpSigma rx tx (set y₁ (shape .cols .0 + shape .rows .0) last) rx₁ (put 0 (frontEnd shape) tx ty)
+      → YMoved (embedIn edition shape c a b) x y dpSigma rx tx (set y₁ (shape .cols .0 + shape .rows .0) last) rx₁ (put 0 (frontEnd shape) tx ty)
   y-moved f sums kept ops kept-front moves last-is =
       let e = frontEnd shape in
       let inside : e ≤ length tx = omega (arith, f .tx-like .is) in

@@ -68,7 +68,7 @@ stopped-left p s b e = rw e
 
 -- ---- all of it, for a caller that has what a step asks: what each answer of the projection makes of the step
 
-module _ {par : SolverParam} {shape : Shape} {c : List Float} {a : Slices} {b : List Float} {words : List ℕ} {x y dpTau dpSigma rx tx cone x₁ rx₁ tx₁ : List Float} {answer : Product} {x₂ cone₂ : List Float} (r : StepReady par shape c a b words (stateOf x y dpTau dpSigma rx tx cone)) (f : XMoved (embedIn shape c a b) x y dpTau tx x₁ rx₁ tx₁) (as-long : length x₁ ≡ length x) (projects : ProductOutcome (projectFits par shape words x₁ cone) (projectedIn par shape words x₁ cone) x₁ cone answer x₂ cone₂) where
+module _ {par : SolverParam} {shape : Shape} {c : List Float} {a : Slices} {b : List Float} {words : List ℕ} {x y dpTau dpSigma rx tx cone x₁ rx₁ tx₁ : List Float} {answer : Product} {x₂ cone₂ : List Float} (r : StepReady par shape c a b words (stateOf x y dpTau dpSigma rx tx cone)) (f : XMoved (embedIn (par .«edition») shape c a b) x y dpTau tx x₁ rx₁ tx₁) (as-long : length x₁ ≡ length x) (projects : ProductOutcome (projectFits par shape words x₁ cone) (projectedIn par shape words x₁ cone) x₁ cone answer x₂ cone₂) where
   abbrev p : Problem
   p = problemIn shape c a b words par
 
@@ -99,7 +99,7 @@ module _ {par : SolverParam} {shape : Shape} {c : List Float} {a : Slices} {b : 
       let stops : stopped p from ≡ stateOf x₂ y dpTau dpSigma rx₁ tx₁ cone₂ = stopped-rule p from ∙ rw (moved, projected-rule shape c a b words par x₁ cone, outcome .cone-left, outcome .work-left) in
       record { answered = sym is ∙ said; left = sym (stopped-left p from number s ∙ stops) }
 
-  pub step-done : {q : ℕ} {x₃ y₄ rx₄ tx₄ : List Float} → answer ≡ Done q → x₃ ≡ takenIn shape x₂ → YMoved (embedIn shape c a b) x₃ y dpSigma rx₁ tx₁ y₄ rx₄ tx₄ → StepOutcome true p from (Done q) (stateOf x₃ y₄ dpTau dpSigma rx₄ tx₄ cone₂)
+  pub step-done : {q : ℕ} {x₃ y₄ rx₄ tx₄ : List Float} → answer ≡ Done q → x₃ ≡ takenIn shape x₂ → YMoved (embedIn (par .«edition») shape c a b) x₃ y dpSigma rx₁ tx₁ y₄ rx₄ tx₄ → StepOutcome true p from (Done q) (stateOf x₃ y₄ dpTau dpSigma rx₄ tx₄ cone₂)
   step-done {q} {x₃} is t g =
       let s = answer-done (updated p from .rotations) (updated p from .failure) q (sym is ∙ said) .0 in
       record { answered = sym is ∙ said; left = sym (none-left p from s ∙ rw (step-rule, ← t, y-rule p x₃ y dpTau dpSigma rx₁ tx₁ cone₂, g .y-is, g .rx-is, g .tx-is)) }

@@ -139,12 +139,12 @@ fn update_fitting(
         (now (rx .exit)) (now (tx .exit)) (now («cone_work» .exit)))
         ⌝ }
 {
-    move_x(shape, c, a1, a2, b, x, y, dp_tau, rx, tx);
+    move_x(par.edition, shape, c, a1, a2, b, x, y, dp_tau, rx, tx);
     let p = project::project(par, shape, words, x, cone_work);
     match p {
         Product::Done(q) => {
             take_tau(shape, x);
-            move_y(shape, c, a1, a2, b, x, y, dp_sigma, rx, tx);
+            move_y(par.edition, shape, c, a1, a2, b, x, y, dp_sigma, rx, tx);
             Product::Done(q)
         }
         Product::Failed(block, q) => Product::Failed(block, q),
@@ -154,6 +154,7 @@ fn update_fitting(
 
 // Copies x aside, and moves x by the transposed operator on y.
 fn move_x(
+    edition: u32,
     shape: Shape,
     c: &[f64],
     a1: &[f64],
@@ -170,14 +171,14 @@ fn move_x(
         (now tx)
         ⌝ }
     ensures { λ _. ⌜
-        XMoved (embedIn shape (now (c .entry)) (slices (now (a1 .entry)) (now (a2 .entry))) (now (b .entry)))
+        XMoved (embedIn edition shape (now (c .entry)) (slices (now (a1 .entry)) (now (a2 .entry))) (now (b .entry)))
         (now (x .entry))
         (now (y .entry)) (now («dp_tau» .entry)) (now (tx .entry)) (now (x .exit)) (now (rx .exit))
         (now (tx .exit))
         ⌝ }
 {
     linalg::copy(x, rx);
-    embed_trans::trans_op(shape, c, a1, a2, b, -1.0, y, 0.0, tx);
+    embed_trans::trans_op(edition, shape, c, a1, a2, b, -1.0, y, 0.0, tx);
     linalg::transform_di(1.0, dp_tau, tx, 1.0, x);
 }
 
@@ -196,6 +197,7 @@ fn take_tau(shape: Shape, x: &mut [f64])
 
 // Forms x_old - 2 * x_new, moves y, and takes the smaller of y's last and 0.
 fn move_y(
+    edition: u32,
     shape: Shape,
     c: &[f64],
     a1: &[f64],
@@ -212,7 +214,7 @@ fn move_y(
         (now tx)
         ⌝ }
     ensures { λ _. ⌜
-        YMoved (embedIn shape (now (c .entry)) (slices (now (a1 .entry)) (now (a2 .entry))) (now (b .entry)))
+        YMoved (embedIn edition shape (now (c .entry)) (slices (now (a1 .entry)) (now (a2 .entry))) (now (b .entry)))
         (now (x .entry))
         (now (y .entry)) (now («dp_sigma» .entry)) (now (rx .entry)) (now (tx .entry)) (now (y .exit))
         (now (rx .exit)) (now (tx .exit))
@@ -223,7 +225,7 @@ fn move_y(
     let nm = n + m;
     let nm1 = nm + 1;
     linalg::add(-1.0 - 1.0, x, rx);
-    embed::op(shape, c, a1, a2, b, -1.0, rx, 0.0, &mut tx[0..nm1]);
+    embed::op(edition, shape, c, a1, a2, b, -1.0, rx, 0.0, &mut tx[0..nm1]);
     linalg::transform_di(1.0, dp_sigma, &tx[0..nm1], 1.0, y);
     y[nm] = float::smaller(y[nm], 0.0);
 }

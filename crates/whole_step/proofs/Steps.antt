@@ -128,7 +128,7 @@ module _ (par : SolverParam) (shape : Shape) (c : List Float) (a : Slices) (b : 
       let f = fits-ready par shape c a b words from (fits-done is) in
       (f .operators, (record { is = kept-x ∙ f .x-like .is }, record { is = kept-rx ∙ f .rx-like .is }))
 
-  pub whole-done : {q : ℕ} {found : Criteria} {rx₂ : List Float} → answer ≡ Done q → found ≡ judged (embedIn shape c a b) (par .«eps_zero») ns x₁ rx₁ .criteria → rx₂ ≡ judged (embedIn shape c a b) (par .«eps_zero») ns x₁ rx₁ .rx → Outcome (Judged found q) (stateOf x₁ y₁ dpTau dpSigma rx₂ tx₁ cone₁)
+  pub whole-done : {q : ℕ} {found : Criteria} {rx₂ : List Float} → answer ≡ Done q → found ≡ judged (embedIn (par .«edition») shape c a b) (par .«eps_zero») ns x₁ rx₁ .criteria → rx₂ ≡ judged (embedIn (par .«edition») shape c a b) (par .«eps_zero») ns x₁ rx₁ .rx → Outcome (Judged found q) (stateOf x₁ y₁ dpTau dpSigma rx₂ tx₁ cone₁)
   whole-done {q} {found} {rx₂} is h e =
       let fits = fits-done is in
       whole-taken fits (step-done (problemIn shape c a b words par) ns from to (step-true u fits) q is found h rx₂ e)

@@ -96,13 +96,13 @@ fn judge(
     requires { ⌜ LikeX shape (now rx) ⌝ }
     ensures says { λ r. ⌜
         r
-        ≡ judged (embedIn shape (now (c .entry)) (slices (now (a1 .entry)) (now (a2 .entry)))
+        ≡ judged (embedIn (par .«edition») shape (now (c .entry)) (slices (now (a1 .entry)) (now (a2 .entry)))
         (now (b .entry))) (par .«eps_zero») norms
         (now (x .entry)) (now (rx .entry)) .criteria
         ⌝ }
     ensures rx_left { λ r. ⌜
         now (rx .exit)
-        ≡ judged (embedIn shape (now (c .entry)) (slices (now (a1 .entry)) (now (a2 .entry)))
+        ≡ judged (embedIn (par .«edition») shape (now (c .entry)) (slices (now (a1 .entry)) (now (a2 .entry)))
         (now (b .entry))) (par .«eps_zero») norms
         (now (x .entry)) (now (rx .entry)) .rx
         ⌝ }

@@ -35,6 +35,7 @@ pub fn dense(list: &[(Kind, usize)], c: Vec<f64>, a: Vec<f64>, b: Vec<f64>) -> H
         a: Vector::whole(a),
         b: Vector::whole(b),
         twice: false,
+        edition: 1,
         work: work_places(m, n),
         cone_work: 0,
         fill: f64::NAN,

@@ -2,6 +2,7 @@
 
 pub mod cards;
 pub mod cones;
+pub mod editions;
 mod grouped;
 pub mod kernels;
 mod large_norms;
@@ -19,5 +20,6 @@ pub fn make(seed: u64, crates: &Path) -> std::io::Result<()> {
     cones::make(seed, &crates.join("replay_cones/stdin"))?;
     runs::make(seed, &crates.join("replay_runs/stdin"))?;
     logs::make(seed, &crates.join("replay_logs/stdin"))?;
+    editions::make(seed, &crates.join("replay_editions/stdin"))?;
     cards::make(seed, &crates.join("replay_cards"), &crates.join("../cards"))
 }

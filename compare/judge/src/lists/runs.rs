@@ -263,7 +263,7 @@ fn large(all: &mut Records, random: &mut Random) {
 }
 
 /// The problem with few numbers in each vector, which repeat.
-fn repeating(mut p: Handed) -> Handed {
+pub(super) fn repeating(mut p: Handed) -> Handed {
     p.c.given.truncate(29);
     p.a.given.truncate(97);
     p.b.given.truncate(31);
@@ -271,7 +271,12 @@ fn repeating(mut p: Handed) -> Handed {
 }
 
 /// Two steps on one block of so many places, and two columns.
-fn of_one_block(random: &mut Random, kind: Kind, size: usize, sweep_limit: u64) -> Handed {
+pub(super) fn of_one_block(
+    random: &mut Random,
+    kind: Kind,
+    size: usize,
+    sweep_limit: u64,
+) -> Handed {
     let mut p = of_size(random, Family::Drawn, false, size, 2);
     p.c = Vector::whole(vec![1.0, -2.0]);
     p.a.given = numbers(random, Sort::Ordinary, 41);

@@ -1,4 +1,4 @@
-//! The stored lists of kernels, cones, runs, logs and cards, read back.
+//! The stored lists of kernels, cones, runs, logs, editions and cards, read back.
 
 // Each test reads some of them.
 #![allow(dead_code)]
@@ -10,6 +10,8 @@ use judge::cone_list::Block;
 use judge::handed::{Handed, Vector};
 use judge::log_rows::Log;
 use judge::original::Kind;
+use judge::problem::{Answer, Ending};
+use judge::words::words;
 
 pub struct Run {
     pub handed: Handed,
@@ -82,6 +84,7 @@ impl Words<'_> {
             a: self.vector(),
             b: self.vector(),
             twice: storage == 2,
+            edition: 1,
             work: self.size(),
             cone_work: self.size(),
             fill: self.number(),
@@ -151,11 +154,48 @@ pub fn runs() -> Vec<Run> {
         .collect()
 }
 
+/// Before each problem stands its edition.
+pub fn editions() -> Vec<Run> {
+    let records = records("replay_editions/stdin").into_iter();
+    records
+        .map(|(tag, record)| {
+            let mut run = Words { left: &record[1..] }.run(tag);
+            run.handed.edition = u32::try_from(record[0]).unwrap();
+            run
+        })
+        .collect()
+}
+
 pub fn logs() -> Vec<LoggedRun> {
     let records = records("replay_logs/stdin").into_iter();
     records
         .map(|(tag, record)| Words { left: &record }.logged(tag))
         .collect()
+}
+
+/// Number, k, q, what is carried and both buffers.
+pub fn told(answer: &Answer) -> Vec<u64> {
+    let number = match answer.ending {
+        Ending::Converged(_) => 7,
+        Ending::ExcessIter(_) => 8,
+        Ending::ExcessIterUnscaled(_) => 9,
+        Ending::Unbounded(_) => 10,
+        Ending::Infeasible(_) => 11,
+        Ending::ConeFailure(_) => 12,
+    };
+    let mut carried = match answer.ending {
+        Ending::ConeFailure(block) => vec![block as u64],
+        _ => words(answer.ending.criteria()),
+    };
+    carried.resize(3, 0);
+    let mut all = vec![number, answer.k, answer.q];
+    all.extend(carried);
+    all.extend([answer.work.len() as u64, answer.cone_work.len() as u64]);
+    if number != 12 {
+        all.extend(words(&answer.work));
+        all.extend(words(&answer.cone_work));
+    }
+    all
 }
 
 /// The first word of each record, and the words after its length.

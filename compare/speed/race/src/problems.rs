@@ -99,6 +99,7 @@ impl Case {
             eps_acc: 0.0,
             eps_inf: 0.0,
             eps_zero: 1e-12,
+            edition: 1,
         }
     }
 }

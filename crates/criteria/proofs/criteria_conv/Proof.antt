@@ -8,12 +8,12 @@ use lib.Ieee.{Float, neg}
 use lib.ListN.{length, drop}
 use Rattle.rules.specs.Helpers.{one, magnitude, reciprocal}
 use Rattle.rules.specs.Arithmetic.{_+ᶠ_, _/ᶠ_, +0, at}
-use Rattle.rules.specs.Matrices.{opped, transOpped}
+use Rattle.rules.specs.Matrices.{oppedBy, transOppedBy}
 use Rattle.rules.specs.Problem.{Embed, column, embedIn, slices}
 use Rattle.rules.specs.Step.{part}
 use Rattle.rules.specs.declared.Norms.{Norms}
 use Rattle.rules.specs.declared.Criteria.the-variants.{Conv}
-use Rattle.rules.specs.Vectors.{norm}
+use Rattle.rules.specs.Vectors.{normBy}
 use Rattle.rules.specs.Criteria.{tauOf, primalResidual, dualResidual, gap, converging}
 use Rattle.rules.proofs.Parts.{put, lent-2, first-put, next-put}
 use Rattle.shape.proofs.Fitting.{c-stored, b-stored}
@@ -21,21 +21,21 @@ use Rattle.criteria.proofs.criteria_conv.Statement.{statement}
 use Rattle.criteria.proofs.criteria_conv.Tie as tie
 
 module _ (k : Embed) (x : List Float) (scale : Float) (is : scale ≡ reciprocal (tauOf k x)) where
-  primal-is : (p : List Float) → p ≡ opped (k .t) scale (k .a) (part 0 (k .n) x) one (opped (column (k .m)) (neg one) (k .b) (one ∷ []) scale (part (k .n + k .m) (k .m) x)) → p ≡ primalResidual k x
+  primal-is : (p : List Float) → p ≡ oppedBy (k .edition) (k .t) scale (k .a) (part 0 (k .n) x) one (oppedBy (k .edition) (column (k .m)) (neg one) (k .b) (one ∷ []) scale (part (k .n + k .m) (k .m) x)) → p ≡ primalResidual k x
   unfolding primalResidual
   primal-is p h = h ∙ rw is
 
-  dual-is : (d q : List Float) → q ≡ transOpped (k .t) scale (k .a) (part (k .n) (k .m) x) one (opped (column (k .n)) one (k .c) (one ∷ []) +0 d) → q ≡ dualResidual k x d
+  dual-is : (d q : List Float) → q ≡ transOppedBy (k .edition) (k .t) scale (k .a) (part (k .n) (k .m) x) one (oppedBy (k .edition) (column (k .n)) one (k .c) (one ∷ []) +0 d) → q ≡ dualResidual k x d
   unfolding dualResidual
   dual-is d q h = h ∙ rw is
 
-  gap-is : (gx gy : Float) → gx ≡ at (transOpped (column (k .n)) scale (k .c) (part 0 (k .n) x) +0 (one ∷ [])) 0
-      → gy ≡ at (transOpped (column (k .m)) scale (k .b) (part (k .n) (k .m) x) +0 (transOpped (column (k .n)) scale (k .c) (part 0 (k .n) x) +0 (one ∷ []))) 0
+  gap-is : (gx gy : Float) → gx ≡ at (transOppedBy (k .edition) (column (k .n)) scale (k .c) (part 0 (k .n) x) +0 (one ∷ [])) 0
+      → gy ≡ at (transOppedBy (k .edition) (column (k .m)) scale (k .b) (part (k .n) (k .m) x) +0 (transOppedBy (k .edition) (column (k .n)) scale (k .c) (part 0 (k .n) x) +0 (one ∷ []))) 0
       → magnitude (gx +ᶠ gy) /ᶠ (one +ᶠ magnitude gx +ᶠ magnitude gy) ≡ gap k x
   unfolding gap
   gap-is gx gy hx hy = rw (hx, hy, is)
 
-conv-is : (k : Embed) (ns : Norms) (x rx p q : List Float) (np nq g : Float) → p ≡ primalResidual k x → q ≡ dualResidual k x (part (k .m) (k .n) rx) → np ≡ norm p → nq ≡ norm q → g ≡ gap k x → (rx' : List Float) → rx' ≡ p ++ q ++ drop (k .m + k .n) rx → (Conv (np /ᶠ (one +ᶠ ns .b)) (nq /ᶠ (one +ᶠ ns .c)) g ≡ converging k ns x rx .criteria) × (rx' ≡ converging k ns x rx .rx)
+conv-is : (k : Embed) (ns : Norms) (x rx p q : List Float) (np nq g : Float) → p ≡ primalResidual k x → q ≡ dualResidual k x (part (k .m) (k .n) rx) → np ≡ normBy (k .edition) p → nq ≡ normBy (k .edition) q → g ≡ gap k x → (rx' : List Float) → rx' ≡ p ++ q ++ drop (k .m + k .n) rx → (Conv (np /ᶠ (one +ᶠ ns .b)) (nq /ᶠ (one +ᶠ ns .c)) g ≡ converging k ns x rx .criteria) × (rx' ≡ converging k ns x rx .rx)
 unfolding converging
 conv-is k ns x rx p q np nq g hp hq hnp hnq hg rx' both = (rw (hnp, hnq, hp, hq, hg), both ∙ rw (hp, hq))
 
@@ -102,11 +102,11 @@ unfolding one
 returns c =
     let s = c .before .before .before .before .before .before .before .before .before .before .before .before .before .before .before .before .before .before .before .before in
     let k = s .args in
-    let e = embedIn (k .shape) (k .c .now) (slices (k .a1 .now) (k .a2 .now)) (k .b .now) in
+    let e = embedIn (k .edition) (k .shape) (k .c .now) (slices (k .a1 .now) (k .a2 .now)) (k .b .now) in
     let x = k .x .now in
     let w = k .rx .now in
-    let p = c .before .before .before .before .before .before .before .before .before .before .primal-residual .last .1 .1 .1 .1 .1 .1 .0 in
-    let q = c .before .before .before .before .before .before .dual-residual .last .1 .1 .1 .1 .1 .1 .0 in
+    let p = c .before .before .before .before .before .before .before .before .before .before .primal-residual .last .1 .1 .1 .1 .1 .1 .1 .0 in
+    let q = c .before .before .before .before .before .before .dual-residual .last .1 .1 .1 .1 .1 .1 .1 .0 in
     let p-length : length p ≡ k .shape .rows .0 = omega (arith, s .pre, c .before .before .before .before .before .before .before .before .before .before .primal-residual .kept, c .before .before .before .before .before .before .before .before .before .before .before .primal-residual-arg) in
     let q-length : length q ≡ k .shape .cols .0 = omega (arith, s .pre, c .before .before .before .before .before .before .dual-residual .kept, c .before .before .before .before .before .before .before .dual-residual-arg) in
     let scale = c .before .before .before .before .before .before .before .before .before .before .before .before .reciprocal .ensures in

@@ -8,35 +8,35 @@ use lib.Ieee.{Float, neg}
 use lib.ListN.{length, drop}
 use Rattle.rules.specs.Helpers.{one}
 use Rattle.rules.specs.Arithmetic.{+0, at}
-use Rattle.rules.specs.Matrices.{opped, transOpped}
+use Rattle.rules.specs.Matrices.{oppedBy, transOppedBy}
 use Rattle.rules.specs.Problem.{Embed, column, embedIn, slices}
 use Rattle.rules.specs.Step.{part}
 use Rattle.rules.specs.declared.Norms.{Norms}
 use Rattle.rules.specs.declared.Criteria.the-variants.{Inf}
-use Rattle.rules.specs.Vectors.{norm}
+use Rattle.rules.specs.Vectors.{normBy}
 use Rattle.rules.specs.Criteria.{ray, dualRay, minusCX, minusBY, ratio, diverging}
 use Rattle.rules.proofs.Parts.{put, lent-2, first-put, next-put}
 use Rattle.criteria.proofs.criteria_inf.Statement.{statement}
 use Rattle.criteria.proofs.criteria_inf.Tie as tie
 
 module _ (k : Embed) (x : List Float) where
-  ray-is : (p : List Float) → p ≡ opped (k .t) one (k .a) (part 0 (k .n) x) one (part (k .n + k .m) (k .m) x) → p ≡ ray k x
+  ray-is : (p : List Float) → p ≡ oppedBy (k .edition) (k .t) one (k .a) (part 0 (k .n) x) one (part (k .n + k .m) (k .m) x) → p ≡ ray k x
   unfolding ray
   ray-is p h = h
 
-  dual-is : (d q : List Float) → q ≡ transOpped (k .t) one (k .a) (part (k .n) (k .m) x) +0 d → q ≡ dualRay k x d
+  dual-is : (d q : List Float) → q ≡ transOppedBy (k .edition) (k .t) one (k .a) (part (k .n) (k .m) x) +0 d → q ≡ dualRay k x d
   unfolding dualRay
   dual-is d q h = h
 
-  of-x : transOpped (column (k .n)) (neg one) (k .c) (part 0 (k .n) x) +0 (+0 ∷ []) ≡ minusCX k x
+  of-x : transOppedBy (k .edition) (column (k .n)) (neg one) (k .c) (part 0 (k .n) x) +0 (+0 ∷ []) ≡ minusCX k x
   unfolding minusCX
   of-x = refl
 
-  of-y : transOpped (column (k .m)) (neg one) (k .b) (part (k .n) (k .m) x) +0 (transOpped (column (k .n)) (neg one) (k .c) (part 0 (k .n) x) +0 (+0 ∷ [])) ≡ minusBY k x
+  of-y : transOppedBy (k .edition) (column (k .m)) (neg one) (k .b) (part (k .n) (k .m) x) +0 (transOppedBy (k .edition) (column (k .n)) (neg one) (k .c) (part 0 (k .n) x) +0 (+0 ∷ [])) ≡ minusBY k x
   unfolding minusBY
   of-y = refl
 
-inf-is : (k : Embed) (eps : Float) (ns : Norms) (x rx p q : List Float) (u v : Float) → p ≡ ray k x → q ≡ dualRay k x (part (k .m) (k .n) rx) → u ≡ ratio eps (norm p) (ns .c) (at (minusCX k x) 0) → v ≡ ratio eps (norm q) (ns .b) (at (minusBY k x) 0) → (rx' : List Float) → rx' ≡ p ++ q ++ drop (k .m + k .n) rx → (Inf u v ≡ diverging k eps ns x rx .criteria) × (rx' ≡ diverging k eps ns x rx .rx)
+inf-is : (k : Embed) (eps : Float) (ns : Norms) (x rx p q : List Float) (u v : Float) → p ≡ ray k x → q ≡ dualRay k x (part (k .m) (k .n) rx) → u ≡ ratio eps (normBy (k .edition) p) (ns .c) (at (minusCX k x) 0) → v ≡ ratio eps (normBy (k .edition) q) (ns .b) (at (minusBY k x) 0) → (rx' : List Float) → rx' ≡ p ++ q ++ drop (k .m + k .n) rx → (Inf u v ≡ diverging k eps ns x rx .criteria) × (rx' ≡ diverging k eps ns x rx .rx)
 unfolding diverging
 inf-is k eps ns x rx p q u v hp hq hu hv rx' both = (rw (hu, hv, hp, hq), both ∙ rw (hp, hq))
 
@@ -91,11 +91,11 @@ unfolding one
 returns c =
     let s = c .before .before .before .before .before .before .before .before .before .before .before .before .before .before .before .before .before in
     let k = s .args in
-    let e = embedIn (k .shape) (k .c .now) (slices (k .a1 .now) (k .a2 .now)) (k .b .now) in
+    let e = embedIn (k .par .«edition») (k .shape) (k .c .now) (slices (k .a1 .now) (k .a2 .now)) (k .b .now) in
     let x = k .x .now in
     let w = k .rx .now in
-    let p = c .before .before .before .before .before .before .before .before .before .ray .last .1 .1 .1 .1 .0 in
-    let q = c .before .before .before .before .before .dual-ray .last .1 .1 .1 .1 .0 in
+    let p = c .before .before .before .before .before .before .before .before .before .ray .last .1 .1 .1 .1 .1 .0 in
+    let q = c .before .before .before .before .before .dual-ray .last .1 .1 .1 .1 .1 .0 in
     let p-length : length p ≡ k .shape .rows .0 = omega (arith, s .pre, c .before .before .before .before .before .before .before .before .before .ray .kept, c .before .before .before .before .before .before .before .before .before .before .ray-arg) in
     let q-length : length q ≡ k .shape .cols .0 = omega (arith, s .pre, c .before .before .before .before .before .dual-ray .kept, c .before .before .before .before .before .before .dual-ray-arg) in
     let pri = ray-is e x p (c .before .before .before .before .before .before .before .before .before .ray .ensures .0) in

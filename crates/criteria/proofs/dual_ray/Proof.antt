@@ -15,23 +15,23 @@ use Rattle.criteria.proofs.dual_ray.Tie as tie
 add-nm : tie.Need-add-nm
 add-nm c = search needs
 
-mul-trans-op : tie.Need-mul-trans-op
-mul-trans-op c = search needs
+mul-trans-op-by : tie.Need-mul-trans-op-by
+mul-trans-op-by c = search needs
 
-sub-trans-op : tie.Need-sub-trans-op
-sub-trans-op c = search needs
+sub-trans-op-by : tie.Need-sub-trans-op-by
+sub-trans-op-by c = search needs
 
-part-trans-op-start : tie.Need-part-trans-op-start
-part-trans-op-start c = search needs
+part-trans-op-by-start : tie.Need-part-trans-op-by-start
+part-trans-op-by-start c = search needs
 
-part-trans-op-end : tie.Need-part-trans-op-end
-part-trans-op-end c = search needs
+part-trans-op-by-end : tie.Need-part-trans-op-by-end
+part-trans-op-by-end c = search needs
 
-trans-op-requires : tie.Need-trans-op-requires
-trans-op-requires c κs = search needs
+trans-op-by-requires : tie.Need-trans-op-by-requires
+trans-op-by-requires c κs = search needs
 
-norm-requires : tie.Need-norm-requires
-norm-requires c κs = search needs
+norm-by-requires : tie.Need-norm-by-requires
+norm-by-requires c κs = search needs
 
 same-length : tie.Need-same-length
 same-length c = search needs
@@ -46,19 +46,19 @@ returns c =
     let f = s .pre .0 in
     let like = s .pre .1 .0 in
     let long = s .pre .1 .1 in
-    let first = split-trans-op-ruled (part n m (k .x .now)) (rw (places n m) at (c .before .before .before .before .trans-op .ensures)) f (long-y like) (long) in
-    (first, c .norm .ensures)
+    let first = split-trans-op-ruled (part n m (k .x .now)) (rw (places n m) at (c .before .before .before .before .trans-op-by .ensures)) f (long-y like) (long) in
+    (first, c .norm-by .ensures)
 
 pub dual-ray-spec : {M : Type 1} → statement M
 dual-ray-spec =
     tie.close
     (tie.spec
     add-nm
-    mul-trans-op
-    sub-trans-op
-    part-trans-op-start
-    part-trans-op-end
-    trans-op-requires
-    norm-requires
+    mul-trans-op-by
+    sub-trans-op-by
+    part-trans-op-by-start
+    part-trans-op-by-end
+    trans-op-by-requires
+    norm-by-requires
     same-length
     returns)

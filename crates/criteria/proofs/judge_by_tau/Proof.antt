@@ -42,7 +42,7 @@ same-length c = search needs
 returns : tie.Need-returns
 returns c =
     let k = c .before .before .before .before .before .before .before .before .before .before .before .before .before .args in
-    let e = above (embedIn (k .shape) (k .c .now) (slices (k .a1 .now) (k .a2 .now)) (k .b .now)) (k .par .«eps_zero») (k .norms) (k .x .now) (k .rx .now) (c .before .before .before .before .if1 .taken) in
+    let e = above (embedIn (k .par .«edition») (k .shape) (k .c .now) (slices (k .a1 .now) (k .a2 .now)) (k .b .now)) (k .par .«eps_zero») (k .norms) (k .x .now) (k .rx .now) (c .before .before .before .before .if1 .taken) in
     (rw e at (c .before .before .criteria-conv .ensures .0), rw e at (c .before .before .criteria-conv .ensures .1))
 
 same-length-2 : tie.Need-same-length-2
@@ -51,7 +51,7 @@ same-length-2 c = search needs
 returns-2 : tie.Need-returns-2
 returns-2 c =
     let k = c .before .before .before .before .before .before .before .before .before .before .before .before .before .args in
-    let e = not-above (embedIn (k .shape) (k .c .now) (slices (k .a1 .now) (k .a2 .now)) (k .b .now)) (k .par .«eps_zero») (k .norms) (k .x .now) (k .rx .now) (c .before .before .before .before .if1 .left) in
+    let e = not-above (embedIn (k .par .«edition») (k .shape) (k .c .now) (slices (k .a1 .now) (k .a2 .now)) (k .b .now)) (k .par .«eps_zero») (k .norms) (k .x .now) (k .rx .now) (c .before .before .before .before .if1 .left) in
     (rw e at (c .before .before .criteria-inf .ensures .0), rw e at (c .before .before .criteria-inf .ensures .1))
 
 pub judge-by-tau-spec : {M : Type 1} → statement M

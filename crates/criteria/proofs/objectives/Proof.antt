@@ -18,20 +18,20 @@ add-nm c = search needs
 column-requires : tie.Need-column-requires
 column-requires c κs = search needs
 
-sub-trans-op : tie.Need-sub-trans-op
-sub-trans-op c = search needs
+sub-trans-op-by : tie.Need-sub-trans-op-by
+sub-trans-op-by c = search needs
 
-part-trans-op-start : tie.Need-part-trans-op-start
-part-trans-op-start c = search needs
+part-trans-op-by-start : tie.Need-part-trans-op-by-start
+part-trans-op-by-start c = search needs
 
-part-trans-op-end : tie.Need-part-trans-op-end
-part-trans-op-end c = search needs
+part-trans-op-by-end : tie.Need-part-trans-op-by-end
+part-trans-op-by-end c = search needs
 
-slice-aggregate-trans-op : tie.Need-slice-aggregate-trans-op
-slice-aggregate-trans-op c = search needs
+slice-aggregate-trans-op-by : tie.Need-slice-aggregate-trans-op-by
+slice-aggregate-trans-op-by c = search needs
 
-trans-op-requires : tie.Need-trans-op-requires
-trans-op-requires c κs = search needs
+trans-op-by-requires : tie.Need-trans-op-by-requires
+trans-op-by-requires c κs = search needs
 
 array-read-cx : tie.Need-array-read-cx
 array-read-cx c = search needs
@@ -39,23 +39,23 @@ array-read-cx c = search needs
 column-requires-2 : tie.Need-column-requires-2
 column-requires-2 c κs = search needs
 
-mul-trans-op : tie.Need-mul-trans-op
-mul-trans-op c = search needs
+mul-trans-op-by : tie.Need-mul-trans-op-by
+mul-trans-op-by c = search needs
 
-sub-trans-op-2 : tie.Need-sub-trans-op-2
-sub-trans-op-2 c = search needs
+sub-trans-op-by-2 : tie.Need-sub-trans-op-by-2
+sub-trans-op-by-2 c = search needs
 
-part-trans-op-start-2 : tie.Need-part-trans-op-start-2
-part-trans-op-start-2 c = search needs
+part-trans-op-by-start-2 : tie.Need-part-trans-op-by-start-2
+part-trans-op-by-start-2 c = search needs
 
-part-trans-op-end-2 : tie.Need-part-trans-op-end-2
-part-trans-op-end-2 c = search needs
+part-trans-op-by-end-2 : tie.Need-part-trans-op-by-end-2
+part-trans-op-by-end-2 c = search needs
 
-slice-aggregate-trans-op-2 : tie.Need-slice-aggregate-trans-op-2
-slice-aggregate-trans-op-2 c = search needs
+slice-aggregate-trans-op-by-2 : tie.Need-slice-aggregate-trans-op-by-2
+slice-aggregate-trans-op-by-2 c = search needs
 
-trans-op-requires-2 : tie.Need-trans-op-requires-2
-trans-op-requires-2 c κs = search needs
+trans-op-by-requires-2 : tie.Need-trans-op-by-requires-2
+trans-op-by-requires-2 c κs = search needs
 
 array-read-by : tie.Need-array-read-by
 array-read-by c = search needs
@@ -67,8 +67,8 @@ returns c =
     let n = k .shape .cols .0 in
     let m = k .shape .rows .0 in
     let like = s .pre .1 .1 in
-    let first = trans-op-ruled (part 0 n (k .x .now)) (rw (c .before .before .before .before .before .before .before .before .before .column .ensures, from-start n) at (c .before .before .before .before .before .before .trans-op .ensures)) (s .pre .0) (long-x like) refl in
-    let second = trans-op-ruled (part n m (k .x .now)) (rw (c .before .before .before .before .column2 .ensures, places n m) at (c .before .trans-op2 .ensures)) (s .pre .1 .0) (long-y like) (omega (arith, c .before .before .before .before .before .before .trans-op .kept)) in
+    let first = trans-op-ruled (part 0 n (k .x .now)) (rw (c .before .before .before .before .before .before .before .before .before .column .ensures, from-start n) at (c .before .before .before .before .before .before .trans-op-by .ensures)) (s .pre .0) (long-x like) refl in
+    let second = trans-op-ruled (part n m (k .x .now)) (rw (c .before .before .before .before .column2 .ensures, places n m) at (c .before .trans-op-by2 .ensures)) (s .pre .1 .0) (long-y like) (omega (arith, c .before .before .before .before .before .before .trans-op-by .kept)) in
     (rw first, rw (second, first))
 
 pub objectives-spec : {M : Type 1} → statement M
@@ -77,18 +77,18 @@ objectives-spec =
     (tie.spec
     add-nm
     column-requires
-    sub-trans-op
-    part-trans-op-start
-    part-trans-op-end
-    slice-aggregate-trans-op
-    trans-op-requires
+    sub-trans-op-by
+    part-trans-op-by-start
+    part-trans-op-by-end
+    slice-aggregate-trans-op-by
+    trans-op-by-requires
     array-read-cx
     column-requires-2
-    mul-trans-op
-    sub-trans-op-2
-    part-trans-op-start-2
-    part-trans-op-end-2
-    slice-aggregate-trans-op-2
-    trans-op-requires-2
+    mul-trans-op-by
+    sub-trans-op-by-2
+    part-trans-op-by-start-2
+    part-trans-op-by-end-2
+    slice-aggregate-trans-op-by-2
+    trans-op-by-requires-2
     array-read-by
     returns)

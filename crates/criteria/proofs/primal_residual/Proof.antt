@@ -37,26 +37,26 @@ copy-requires c κs = search needs
 column-requires : tie.Need-column-requires
 column-requires c κs = search needs
 
-slice-aggregate-op : tie.Need-slice-aggregate-op
-slice-aggregate-op c = search needs
+slice-aggregate-op-by : tie.Need-slice-aggregate-op-by
+slice-aggregate-op-by c = search needs
 
-op-requires : tie.Need-op-requires
-op-requires c κs = search needs
+op-by-requires : tie.Need-op-by-requires
+op-by-requires c κs = search needs
 
-sub-op : tie.Need-sub-op
-sub-op c = search needs
+sub-op-by : tie.Need-sub-op-by
+sub-op-by c = search needs
 
-part-op-start : tie.Need-part-op-start
-part-op-start c = search needs
+part-op-by-start : tie.Need-part-op-by-start
+part-op-by-start c = search needs
 
-part-op-end : tie.Need-part-op-end
-part-op-end c = search needs
+part-op-by-end : tie.Need-part-op-by-end
+part-op-by-end c = search needs
 
-op-requires-2 : tie.Need-op-requires-2
-op-requires-2 c κs = search needs
+op-by-requires-2 : tie.Need-op-by-requires-2
+op-by-requires-2 c κs = search needs
 
-norm-requires : tie.Need-norm-requires
-norm-requires c κs = search needs
+norm-by-requires : tie.Need-norm-by-requires
+norm-by-requires c κs = search needs
 
 same-length : tie.Need-same-length
 same-length c = search needs
@@ -72,9 +72,9 @@ returns c =
     let like = s .pre .1 .1 .0 in
     let long = s .pre .1 .1 .1 in
     let first = add-ruled (part (n + m) m (k .x .now)) (rw (places (n + m) m) at (c .before .before .before .before .before .before .before .before .before .before .before .before .before .before .before .copy .ensures)) (long-s like ∙ sym long) in
-    let second = op-ruled (one ∷ []) (rw (c .before .before .before .before .before .before .before .before .before .before .before .before .column .ensures) at (c .before .before .before .before .before .before .before .before .before .op .ensures)) (s .pre .1 .0) refl (omega (arith, c .before .before .before .before .before .before .before .before .before .before .before .before .before .before .before .copy .kept, long)) in
-    let third = split-op-ruled (part 0 n (k .x .now)) (rw (from-start n) at (c .before .before .before .before .op2 .ensures)) f (long-x like) (omega (arith, c .before .before .before .before .before .before .before .before .before .before .before .before .before .before .before .copy .kept, c .before .before .before .before .before .before .before .before .before .op .kept, long)) in
-    (third ∙ rw (second, first), c .norm .ensures)
+    let second = op-ruled (one ∷ []) (rw (c .before .before .before .before .before .before .before .before .before .before .before .before .column .ensures) at (c .before .before .before .before .before .before .before .before .before .op-by .ensures)) (s .pre .1 .0) refl (omega (arith, c .before .before .before .before .before .before .before .before .before .before .before .before .before .before .before .copy .kept, long)) in
+    let third = split-op-ruled (part 0 n (k .x .now)) (rw (from-start n) at (c .before .before .before .before .op-by2 .ensures)) f (long-x like) (omega (arith, c .before .before .before .before .before .before .before .before .before .before .before .before .before .before .before .copy .kept, c .before .before .before .before .before .before .before .before .before .op-by .kept, long)) in
+    (third ∙ rw (second, first), c .norm-by .ensures)
 
 pub primal-residual-spec : {M : Type 1} → statement M
 primal-residual-spec =
@@ -88,12 +88,12 @@ primal-residual-spec =
     part-copy-end
     copy-requires
     column-requires
-    slice-aggregate-op
-    op-requires
-    sub-op
-    part-op-start
-    part-op-end
-    op-requires-2
-    norm-requires
+    slice-aggregate-op-by
+    op-by-requires
+    sub-op-by
+    part-op-by-start
+    part-op-by-end
+    op-by-requires-2
+    norm-by-requires
     same-length
     returns)

@@ -34,20 +34,20 @@ part-copy-end c = search needs
 copy-requires : tie.Need-copy-requires
 copy-requires c κs = search needs
 
-sub-op : tie.Need-sub-op
-sub-op c = search needs
+sub-op-by : tie.Need-sub-op-by
+sub-op-by c = search needs
 
-part-op-start : tie.Need-part-op-start
-part-op-start c = search needs
+part-op-by-start : tie.Need-part-op-by-start
+part-op-by-start c = search needs
 
-part-op-end : tie.Need-part-op-end
-part-op-end c = search needs
+part-op-by-end : tie.Need-part-op-by-end
+part-op-by-end c = search needs
 
-op-requires : tie.Need-op-requires
-op-requires c κs = search needs
+op-by-requires : tie.Need-op-by-requires
+op-by-requires c κs = search needs
 
-norm-requires : tie.Need-norm-requires
-norm-requires c κs = search needs
+norm-by-requires : tie.Need-norm-by-requires
+norm-by-requires c κs = search needs
 
 same-length : tie.Need-same-length
 same-length c = search needs
@@ -63,8 +63,8 @@ returns c =
     let like = s .pre .1 .0 in
     let long = s .pre .1 .1 in
     let first = add-ruled (part (n + m) m (k .x .now)) (rw (places (n + m) m) at (c .before .before .before .before .before .before .before .before .before .copy .ensures)) (long-s like ∙ sym long) in
-    let second = split-op-ruled (part 0 n (k .x .now)) (rw (from-start n) at (c .before .before .before .before .op .ensures)) f (long-x like) (omega (arith, c .before .before .before .before .before .before .before .before .before .copy .kept, long)) in
-    (second ∙ rw first, c .norm .ensures)
+    let second = split-op-ruled (part 0 n (k .x .now)) (rw (from-start n) at (c .before .before .before .before .op-by .ensures)) f (long-x like) (omega (arith, c .before .before .before .before .before .before .before .before .before .copy .kept, long)) in
+    (second ∙ rw first, c .norm-by .ensures)
 
 pub ray-spec : {M : Type 1} → statement M
 ray-spec =
@@ -77,10 +77,10 @@ ray-spec =
     part-copy-start
     part-copy-end
     copy-requires
-    sub-op
-    part-op-start
-    part-op-end
-    op-requires
-    norm-requires
+    sub-op-by
+    part-op-by-start
+    part-op-by-end
+    op-by-requires
+    norm-by-requires
     same-length
     returns)

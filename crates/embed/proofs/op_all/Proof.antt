@@ -72,12 +72,12 @@ returns c =
     let start = c .before .before .before .before .before .before .before .before .before .before .before .before .before .before .before .before .before .before in
     let k = start .args in
     let w = k .y .now in
-    let p = c .before .before .before .before .before .before .before .before .before .before .op-n .last .1 .1 .1 .1 .1 .1 .1 .1 .0 in
-    let q = c .before .before .before .before .before .before .op-m .last .1 .1 .1 .1 .1 .1 .1 .1 .0 in
-    let r = c .before .before .op-1 .last .1 .1 .1 .1 .1 .1 .1 .1 .0 in
+    let p = c .before .before .before .before .before .before .before .before .before .before .op-n .last .1 .1 .1 .1 .1 .1 .1 .1 .1 .0 in
+    let q = c .before .before .before .before .before .before .op-m .last .1 .1 .1 .1 .1 .1 .1 .1 .1 .0 in
+    let r = c .before .before .op-1 .last .1 .1 .1 .1 .1 .1 .1 .1 .1 .0 in
     let p-length : length p ≡ k .shape .cols .0 = omega (arith, start .pre, c .before .before .before .before .before .before .before .before .before .before .op-n .kept, c .before .before .before .before .before .before .before .before .before .before .before .op-n-arg) in
     let q-length : length q ≡ k .shape .rows .0 = omega (arith, start .pre, c .before .before .before .before .before .before .op-m .kept, c .before .before .before .before .before .before .before .op-m-arg) in
-    let e = embedIn (k .shape) (k .c .now) (slices (k .a1 .now) (k .a2 .now)) (k .b .now) in
+    let e = embedIn (k .edition) (k .shape) (k .c .now) (slices (k .a1 .now) (k .a2 .now)) (k .b .now) in
     three-parts (k .shape .cols .0) (k .shape .rows .0) 1 w p q r p-length q-length (omega (arith, start .pre))
     (onN e (k .alpha) (k .x .now) (k .beta))
     (onM e (k .alpha) (k .x .now) (k .beta))

@@ -21,17 +21,17 @@ add-nmm c = search needs
 add-nmm1 : tie.Need-add-nmm1
 add-nmm1 c = search needs
 
-sub-op : tie.Need-sub-op
-sub-op c = search needs
+sub-op-by : tie.Need-sub-op-by
+sub-op-by c = search needs
 
-part-op-start : tie.Need-part-op-start
-part-op-start c = search needs
+part-op-by-start : tie.Need-part-op-by-start
+part-op-by-start c = search needs
 
-part-op-end : tie.Need-part-op-end
-part-op-end c = search needs
+part-op-by-end : tie.Need-part-op-by-end
+part-op-by-end c = search needs
 
-op-requires : tie.Need-op-requires
-op-requires c κs = search needs
+op-by-requires : tie.Need-op-by-requires
+op-by-requires c κs = search needs
 
 mul-add : tie.Need-mul-add
 mul-add c = search needs
@@ -51,20 +51,20 @@ add-requires c κs = search needs
 column-requires : tie.Need-column-requires
 column-requires c κs = search needs
 
-mul-op : tie.Need-mul-op
-mul-op c = search needs
+mul-op-by : tie.Need-mul-op-by
+mul-op-by c = search needs
 
-sub-op-2 : tie.Need-sub-op-2
-sub-op-2 c = search needs
+sub-op-by-2 : tie.Need-sub-op-by-2
+sub-op-by-2 c = search needs
 
-part-op-start-2 : tie.Need-part-op-start-2
-part-op-start-2 c = search needs
+part-op-by-start-2 : tie.Need-part-op-by-start-2
+part-op-by-start-2 c = search needs
 
-part-op-end-2 : tie.Need-part-op-end-2
-part-op-end-2 c = search needs
+part-op-by-end-2 : tie.Need-part-op-by-end-2
+part-op-by-end-2 c = search needs
 
-op-requires-2 : tie.Need-op-requires-2
-op-requires-2 c κs = search needs
+op-by-requires-2 : tie.Need-op-by-requires-2
+op-by-requires-2 c κs = search needs
 
 same-length : tie.Need-same-length
 same-length c = search needs
@@ -79,9 +79,9 @@ returns c =
     let f = s .pre .0 in
     let like = s .pre .1 .0 in
     let long = s .pre .1 .1 in
-    let first = split-op-ruled (part 0 n (k .x .now)) (rw (from-start n) at (c .before .before .before .before .before .before .before .before .before .before .before .before .before .op .ensures)) (f .matrix) (long-x like) (long) in
-    let second = add-ruled (part (n + m) m (k .x .now)) (rw (places (n + m) m) at (c .before .before .before .before .before .before .before .before .add .ensures)) (omega (arith, long-s like, c .before .before .before .before .before .before .before .before .before .before .before .before .before .op .kept, long)) in
-    let third = op-ruled (part (n + m + m) 1 (k .x .now)) (rw (c .before .before .before .before .before .column .ensures, places (n + m + m) 1) at (c .before .before .op2 .ensures)) (b-stored f) (long-tau like) (omega (arith, c .before .before .before .before .before .before .before .before .add .kept, c .before .before .before .before .before .before .before .before .before .before .before .before .before .op .kept, long)) in
+    let first = split-op-ruled (part 0 n (k .x .now)) (rw (from-start n) at (c .before .before .before .before .before .before .before .before .before .before .before .before .before .op-by .ensures)) (f .matrix) (long-x like) (long) in
+    let second = add-ruled (part (n + m) m (k .x .now)) (rw (places (n + m) m) at (c .before .before .before .before .before .before .before .before .add .ensures)) (omega (arith, long-s like, c .before .before .before .before .before .before .before .before .before .before .before .before .before .op-by .kept, long)) in
+    let third = op-ruled (part (n + m + m) 1 (k .x .now)) (rw (c .before .before .before .before .before .column .ensures, places (n + m + m) 1) at (c .before .before .op-by2 .ensures)) (b-stored f) (long-tau like) (omega (arith, c .before .before .before .before .before .before .before .before .add .kept, c .before .before .before .before .before .before .before .before .before .before .before .before .before .op-by .kept, long)) in
     third ∙ rw (second, first)
 
 pub op-m-spec : {M : Type 1} → statement M
@@ -91,20 +91,20 @@ op-m-spec =
     add-nm
     add-nmm
     add-nmm1
-    sub-op
-    part-op-start
-    part-op-end
-    op-requires
+    sub-op-by
+    part-op-by-start
+    part-op-by-end
+    op-by-requires
     mul-add
     sub-add
     part-add-start
     part-add-end
     add-requires
     column-requires
-    mul-op
-    sub-op-2
-    part-op-start-2
-    part-op-end-2
-    op-requires-2
+    mul-op-by
+    sub-op-by-2
+    part-op-by-start-2
+    part-op-by-end-2
+    op-by-requires-2
     same-length
     returns)

@@ -67,7 +67,7 @@ trans-s-requires c κs =
     (p .0, (p .1 .0, search needs))
 
 mul-trans-tau : tie.Need-mul-trans-tau
-mul-trans-tau c = search needs
+mul-trans-tau c = omega (arith, c .before .before .before .before .before .before .before .before .before .before .before .before .before .before .before .before .before .before .pre)
 
 sub-trans-tau : tie.Need-sub-trans-tau
 sub-trans-tau c = search needs
@@ -92,14 +92,14 @@ returns c =
     let start = c .before .before .before .before .before .before .before .before .before .before .before .before .before .before .before .before .before .before .before .before .before .before in
     let k = start .args in
     let w = k .x .now in
-    let p = c .before .before .before .before .before .before .before .before .before .before .before .before .before .before .trans-x .last .1 .1 .1 .1 .1 .1 .1 .1 .0 in
-    let q = c .before .before .before .before .before .before .before .before .before .before .trans-y .last .1 .1 .1 .1 .1 .1 .1 .1 .0 in
-    let r = c .before .before .before .before .before .before .trans-s .last .1 .1 .1 .1 .1 .1 .1 .1 .0 in
-    let s = c .before .before .trans-tau .last .1 .1 .1 .1 .1 .1 .1 .1 .0 in
+    let p = c .before .before .before .before .before .before .before .before .before .before .before .before .before .before .trans-x .last .1 .1 .1 .1 .1 .1 .1 .1 .1 .0 in
+    let q = c .before .before .before .before .before .before .before .before .before .before .trans-y .last .1 .1 .1 .1 .1 .1 .1 .1 .1 .0 in
+    let r = c .before .before .before .before .before .before .trans-s .last .1 .1 .1 .1 .1 .1 .1 .1 .1 .0 in
+    let s = c .before .before .trans-tau .last .1 .1 .1 .1 .1 .1 .1 .1 .1 .0 in
     let p-length : length p ≡ k .shape .cols .0 = omega (arith, start .pre, c .before .before .before .before .before .before .before .before .before .before .before .before .before .before .trans-x .kept, c .before .before .before .before .before .before .before .before .before .before .before .before .before .before .before .trans-x-arg) in
     let q-length : length q ≡ k .shape .rows .0 = omega (arith, start .pre, c .before .before .before .before .before .before .before .before .before .before .trans-y .kept, c .before .before .before .before .before .before .before .before .before .before .before .trans-y-arg) in
     let r-length : length r ≡ k .shape .rows .0 = omega (arith, start .pre, c .before .before .before .before .before .before .trans-s .kept, c .before .before .before .before .before .before .before .trans-s-arg) in
-    let e = embedIn (k .shape) (k .c .now) (slices (k .a1 .now) (k .a2 .now)) (k .b .now) in
+    let e = embedIn (k .edition) (k .shape) (k .c .now) (slices (k .a1 .now) (k .a2 .now)) (k .b .now) in
     four-parts (k .shape .cols .0) (k .shape .rows .0) (k .shape .rows .0) 1 w p q r s p-length q-length r-length (omega (arith, start .pre))
     (backX e (k .alpha) (k .y .now) (k .beta))
     (backY e (k .alpha) (k .y .now) (k .beta))

@@ -18,35 +18,35 @@ add-nm c = search needs
 add-nm1 : tie.Need-add-nm1
 add-nm1 c = search needs
 
-sub-op : tie.Need-sub-op
-sub-op c = search needs
+sub-op-by : tie.Need-sub-op-by
+sub-op-by c = search needs
 
-part-op-start : tie.Need-part-op-start
-part-op-start c = search needs
+part-op-by-start : tie.Need-part-op-by-start
+part-op-by-start c = search needs
 
-part-op-end : tie.Need-part-op-end
-part-op-end c = search needs
+part-op-by-end : tie.Need-part-op-by-end
+part-op-by-end c = search needs
 
-op-requires : tie.Need-op-requires
-op-requires c κs = search needs
+op-by-requires : tie.Need-op-by-requires
+op-by-requires c κs = search needs
 
 column-requires : tie.Need-column-requires
 column-requires c κs = search needs
 
-mul-op : tie.Need-mul-op
-mul-op c = search needs
+mul-op-by : tie.Need-mul-op-by
+mul-op-by c = search needs
 
-sub-op-2 : tie.Need-sub-op-2
-sub-op-2 c = search needs
+sub-op-by-2 : tie.Need-sub-op-by-2
+sub-op-by-2 c = search needs
 
-part-op-start-2 : tie.Need-part-op-start-2
-part-op-start-2 c = search needs
+part-op-by-start-2 : tie.Need-part-op-by-start-2
+part-op-by-start-2 c = search needs
 
-part-op-end-2 : tie.Need-part-op-end-2
-part-op-end-2 c = search needs
+part-op-by-end-2 : tie.Need-part-op-by-end-2
+part-op-by-end-2 c = search needs
 
-op-requires-2 : tie.Need-op-requires-2
-op-requires-2 c κs = search needs
+op-by-requires-2 : tie.Need-op-by-requires-2
+op-by-requires-2 c κs = search needs
 
 same-length : tie.Need-same-length
 same-length c = search needs
@@ -61,8 +61,8 @@ returns c =
     let f = s .pre .0 in
     let like = s .pre .1 .0 in
     let long = s .pre .1 .1 in
-    let first = split-op-ruled (part 0 n (k .y .now)) (rw (from-start n) at (c .before .before .before .before .before .before .before .before .op .ensures)) (f .matrix) (long-n like) (long) in
-    let second = op-ruled (part (n + m) 1 (k .y .now)) (rw (c .before .before .before .before .before .column .ensures, places (n + m) 1) at (c .before .before .op2 .ensures)) (b-stored f) (long-1 like) (omega (arith, c .before .before .before .before .before .before .before .before .op .kept, long)) in
+    let first = split-op-ruled (part 0 n (k .y .now)) (rw (from-start n) at (c .before .before .before .before .before .before .before .before .op-by .ensures)) (f .matrix) (long-n like) (long) in
+    let second = op-ruled (part (n + m) 1 (k .y .now)) (rw (c .before .before .before .before .before .column .ensures, places (n + m) 1) at (c .before .before .op-by2 .ensures)) (b-stored f) (long-1 like) (omega (arith, c .before .before .before .before .before .before .before .before .op-by .kept, long)) in
     second ∙ rw first
 
 pub trans-y-spec : {M : Type 1} → statement M
@@ -71,15 +71,15 @@ trans-y-spec =
     (tie.spec
     add-nm
     add-nm1
-    sub-op
-    part-op-start
-    part-op-end
-    op-requires
+    sub-op-by
+    part-op-by-start
+    part-op-by-end
+    op-by-requires
     column-requires
-    mul-op
-    sub-op-2
-    part-op-start-2
-    part-op-end-2
-    op-requires-2
+    mul-op-by
+    sub-op-by-2
+    part-op-by-start-2
+    part-op-by-end-2
+    op-by-requires-2
     same-length
     returns)

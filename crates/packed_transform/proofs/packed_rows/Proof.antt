@@ -6,7 +6,7 @@ use mathlib.Core.Path.{_≡_, sym}
 use lib.ListN.{length}
 use Rattle.rules.specs.declared.MatType.the-variants.{SymPack}
 use Rattle.rules.specs.Arithmetic.{_+ᶠ_, _*ᶠ_}
-use Rattle.rules.specs.Matrices.{entry, product, transformed}
+use Rattle.rules.specs.Matrices.{entry, product, transformedBy}
 use Rattle.rules.proofs.Arithmetic.{Reached, reached-none, reached-all}
 use Rattle.rules.proofs.Parts.{part-places}
 use Rattle.side_by_side.proofs.SideBySide.{reached-part}
@@ -90,7 +90,7 @@ same-length : tie.Need-same-length Inv-loop μ-loop
 same-length c = search needs
 
 returns : tie.Need-returns Inv-loop μ-loop
-unfolding transformed
+unfolding transformedBy
 returns c = reached-all (c .before .loop .inv .0) (search needs)
 
 pub packed-rows-spec : {M : Type 1} → statement M

@@ -1,11 +1,10 @@
 -- `parameters::bad_param` meets its contract.
 use borrow.Author.Needs.{needs}
-use borrow.Author.Tests.{lt-ltb, le-ltb, le-leb, lt-leb}
+use borrow.Author.Tests.{lt-ltb, le-ltb, le-leb, lt-leb, eq-eqb, ne-eqb}
 use mathlib.Core.Path.{_≡_, sym, _∙_}
 use mathlib.Core.Bool.{true, false}
 use Rattle.rules.specs.Limits.{mostSteps, mostSweeps}
 use Rattle.rules.specs.Refusals.{badEps, badTolerance, badParam}
-use Rattle.parameters.proofs.Above.{above}
 use Rattle.parameters.proofs.bad_param.Statement.{statement}
 use Rattle.parameters.proofs.bad_param.Tie as tie
 
@@ -66,11 +65,23 @@ returns-5 c =
 returns-6 : tie.Need-returns-6
 unfolding badParam
 returns-6 c =
-    let s = c .before in
-    let f = s .before .before in
-    let t = f .before .before in
-    let par = t .before .before .before .before .before .before .args .par in
-    rw (tolerances t, le-ltb mostSteps (par .«max_iter») (f .if4 .left), le-leb 1 (par .«sweep_limit») (s .if5 .left)) (above (par .«sweep_limit») mostSweeps)
+    let par = c .before .before .before .before .before .before .before .before .before .before .before .before .args .par in
+    let t = c .before .before .before .before .before .before in
+    rw (tolerances t, le-ltb mostSteps (par .«max_iter») (c .before .before .before .before .if4 .left), le-leb 1 (par .«sweep_limit») (c .before .before .if5 .left), lt-leb (par .«sweep_limit») mostSweeps (c .if6 .taken))
+
+returns-7 : tie.Need-returns-7
+unfolding badParam
+returns-7 c =
+    let par = c .before .before .before .before .before .before .before .before .before .before .before .before .before .before .args .par in
+    let t = c .before .before .before .before .before .before .before .before in
+    rw (tolerances t, le-ltb mostSteps (par .«max_iter») (c .before .before .before .before .before .before .if4 .left), le-leb 1 (par .«sweep_limit») (c .before .before .before .before .if5 .left), le-leb (par .«sweep_limit») mostSweeps (c .before .before .if6 .left), eq-eqb (par .«edition») 1 (c .if7 .taken))
+
+returns-8 : tie.Need-returns-8
+unfolding badParam
+returns-8 c =
+    let par = c .before .before .before .before .before .before .before .before .before .before .before .before .before .before .before .args .par in
+    let t = c .before .before .before .before .before .before .before .before .before in
+    rw (tolerances t, le-ltb mostSteps (par .«max_iter») (c .before .before .before .before .before .before .before .if4 .left), le-leb 1 (par .«sweep_limit») (c .before .before .before .before .before .if5 .left), le-leb (par .«sweep_limit») mostSweeps (c .before .before .before .if6 .left), ne-eqb (par .«edition») 1 (c .before .if7 .left))
 
 pub bad-param-spec : {M : Type 1} → statement M
 bad-param-spec =
@@ -84,4 +95,6 @@ bad-param-spec =
     returns-3
     returns-4
     returns-5
-    returns-6)
+    returns-6
+    returns-7
+    returns-8)

@@ -13,22 +13,22 @@ some : (c : tie.Else1) → 0 < length (c .before .before .args .x .now)
 some c = omega (arith, c .if1 .left)
 
 returns : tie.Need-returns
-returns c = (soc-none _ (omega (arith, c .if1 .taken)), λ e. refl)
+returns c = (soc-none (c .before .before .args .edition) _ (omega (arith, c .if1 .taken)), λ e. refl)
 
 slice-read-s : tie.Need-slice-read-s
 slice-read-s c = search needs
 
-sub-norm : tie.Need-sub-norm
-sub-norm c = search needs
+sub-norm-by : tie.Need-sub-norm-by
+sub-norm-by c = search needs
 
-part-norm-start : tie.Need-part-norm-start
-part-norm-start c = search needs
+part-norm-by-start : tie.Need-part-norm-by-start
+part-norm-by-start c = search needs
 
-part-norm-end : tie.Need-part-norm-end
-part-norm-end c = search needs
+part-norm-by-end : tie.Need-part-norm-by-end
+part-norm-by-end c = search needs
 
-norm-requires : tie.Need-norm-requires
-norm-requires c κs = search needs
+norm-by-requires : tie.Need-norm-by-requires
+norm-by-requires c κs = search needs
 
 sub-scale : tie.Need-sub-scale
 sub-scale c = search needs
@@ -49,13 +49,13 @@ same-length : tie.Need-same-length
 same-length c = search needs
 
 returns-2 : tie.Need-returns-2
-returns-2 c = (soc-apex _ _ _ (some (c .before .before .before .before .before .before .before .before .before)) (c .before .before .before .before .before .norm .ensures) (c .before .before .before .before .if2 .taken) (c .before .before .scale .ensures), λ e. absurd (false≢true e))
+returns-2 c = (soc-apex (c .before .before .before .before .before .before .before .before .before .before .before .args .edition) _ _ _ (some (c .before .before .before .before .before .before .before .before .before)) (c .before .before .before .before .before .norm-by .ensures) (c .before .before .before .before .if2 .taken) (c .before .before .scale .ensures), λ e. absurd (false≢true e))
 
 same-length-2 : tie.Need-same-length-2
 same-length-2 c = search needs
 
 returns-3 : tie.Need-returns-3
-returns-3 c = (soc-inside _ (c .before .before .before .before .before .before .before .before .args .x .now) _ (some (c .before .before .before .before .before .before)) (c .before .before .norm .ensures) (c .before .if2 .left) (c .if3 .taken), λ e. refl)
+returns-3 c = (soc-inside (c .before .before .before .before .before .before .before .before .args .edition) _ (c .before .before .before .before .before .before .before .before .args .x .now) _ (some (c .before .before .before .before .before .before)) (c .before .before .norm-by .ensures) (c .before .if2 .left) (c .if3 .taken), λ e. refl)
 
 sub-scale-2 : tie.Need-sub-scale-2
 sub-scale-2 c = search needs
@@ -76,7 +76,7 @@ same-length-3 : tie.Need-same-length-3
 same-length-3 c = search needs
 
 returns-4 : tie.Need-returns-4
-returns-4 c = (rw two-is (soc-outside _ _ _ (some (c .before .before .before .before .before .before .before .before .before .before)) (c .before .before .before .before .before .before .norm .ensures) (c .before .before .before .before .before .if2 .left) (c .before .before .before .before .if3 .left) (rw (one-is, two-is) at (c .before .before .scale2 .ensures))), λ e. absurd (false≢true e))
+returns-4 c = (rw two-is (soc-outside (c .before .before .before .before .before .before .before .before .before .before .before .before .args .edition) _ _ _ (some (c .before .before .before .before .before .before .before .before .before .before)) (c .before .before .before .before .before .before .norm-by .ensures) (c .before .before .before .before .before .if2 .left) (c .before .before .before .before .if3 .left) (rw (one-is, two-is) at (c .before .before .scale2 .ensures))), λ e. absurd (false≢true e))
 
 pub proj-inside-spec : {M : Type 1} → statement M
 proj-inside-spec =
@@ -84,10 +84,10 @@ proj-inside-spec =
     (tie.spec
     returns
     slice-read-s
-    sub-norm
-    part-norm-start
-    part-norm-end
-    norm-requires
+    sub-norm-by
+    part-norm-by-start
+    part-norm-by-end
+    norm-by-requires
     sub-scale
     part-scale-start
     part-scale-end

@@ -31,14 +31,14 @@ same-length c = search needs
 
 returns : tie.Need-returns
 returns c =
-    inside-is _ _ (c .before .before .before .before .before .before .before .before .before .before .before .before .before .root-two .ensures) (c .before .before .before .before .before .before .before .before .before .before .before .before .before .before .before .before .before .pre) (c .before .before .before .before .before .before .before .before .before .before .before .put-two .ensures) (c .before .before .before .before .before .before .before .proj-inside .ensures .0) (c .before .before .before .before .before .before .before .proj-inside .ensures .1 (c .before .before .before .before .if1 .taken)) (c .before .before .put-two2 .ensures)
+    inside-is (c .before .before .before .before .before .before .before .before .before .before .before .before .before .before .before .before .before .args .edition) _ _ (c .before .before .before .before .before .before .before .before .before .before .before .before .before .root-two .ensures) (c .before .before .before .before .before .before .before .before .before .before .before .before .before .before .before .before .before .pre) (c .before .before .before .before .before .before .before .before .before .before .before .put-two .ensures) (c .before .before .before .before .before .before .before .proj-inside .ensures .0) (c .before .before .before .before .before .before .before .proj-inside .ensures .1 (c .before .before .before .before .if1 .taken)) (c .before .before .put-two2 .ensures)
 
 same-length-2 : tie.Need-same-length-2
 same-length-2 c = search needs
 
 returns-2 : tie.Need-returns-2
 returns-2 c =
-    outside-is _ _ (c .before .before .before .before .before .before .before .before .before .before .before .before .before .root-two .ensures) (c .before .before .before .before .before .before .before .before .before .before .before .before .before .before .before .before .before .pre) (c .before .before .before .before .before .before .before .before .before .before .before .put-two .ensures) (c .before .before .before .before .before .before .before .proj-inside .ensures .0) (c .before .before .reflect .ensures)
+    outside-is (c .before .before .before .before .before .before .before .before .before .before .before .before .before .before .before .before .before .args .edition) _ _ (c .before .before .before .before .before .before .before .before .before .before .before .before .before .root-two .ensures) (c .before .before .before .before .before .before .before .before .before .before .before .before .before .before .before .before .before .pre) (c .before .before .before .before .before .before .before .before .before .before .before .put-two .ensures) (c .before .before .before .before .before .before .before .proj-inside .ensures .0) (c .before .before .reflect .ensures)
 
 pub proj-reflected-spec : {M : Type 1} → statement M
 proj-reflected-spec =

@@ -22,16 +22,16 @@ same-length : tie.Need-same-length
 same-length c = search needs
 
 returns : tie.Need-returns
-returns c = rw (c .larger .ensures) (rotated-one _ (omega (arith, c .before .before .if1 .taken)))
+returns c = rw (c .larger .ensures) (rotated-one (c .before .before .before .before .args .edition) _ (omega (arith, c .before .before .if1 .taken)))
 
 same-length-2 : tie.Need-same-length-2
 same-length-2 c = search needs
 
 returns-2 : tie.Need-returns-2
-returns-2 c = c .before .before .proj-reflected .ensures ∙ rotated-more _ (c .before .before .before .before .if2 .taken)
+returns-2 c = c .before .before .proj-reflected .ensures ∙ rotated-more (c .before .before .before .before .before .before .before .args .edition) _ (c .before .before .before .before .if2 .taken)
 
 returns-3 : tie.Need-returns-3
-returns-3 c = rotated-none _ (omega (arith, c .before .if1 .left, c .if2 .left))
+returns-3 c = rotated-none (c .before .before .before .args .edition) _ (omega (arith, c .before .if1 .left, c .if2 .left))
 
 pub proj-rotated-spec : {M : Type 1} → statement M
 proj-rotated-spec =

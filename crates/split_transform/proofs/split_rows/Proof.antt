@@ -8,7 +8,7 @@ use lib.Ieee.{Float}
 use lib.ListN.{length, take, drop}
 use Rattle.rules.specs.declared.MatType.the-variants.{General}
 use Rattle.rules.specs.Arithmetic.{_+ᶠ_, _*ᶠ_}
-use Rattle.rules.specs.Matrices.{entry, product, transformed}
+use Rattle.rules.specs.Matrices.{entry, product, transformedBy}
 use Rattle.rules.proofs.Arithmetic.{Reached, reached-none, reached-all}
 use Rattle.rules.proofs.Parts.{part-places}
 use Rattle.side_by_side.proofs.SideBySide.{reached-part}
@@ -163,7 +163,7 @@ same-length : tie.Need-same-length Inv-loop μ-loop
 same-length c = search needs
 
 returns : tie.Need-returns Inv-loop μ-loop
-unfolding transformed
+unfolding transformedBy
 returns c = reached-all (c .before .loop .inv .0) (search needs)
 
 pub split-rows-spec : {M : Type 1} → statement M

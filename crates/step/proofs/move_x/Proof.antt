@@ -21,11 +21,11 @@ same-length-2 : tie.Need-same-length-2
 same-length-2 c = c .before .before .before .before .before .before .before .before .before .before .before .copy .kept .1 .0
 
 same-length-3 : tie.Need-same-length-3
-same-length-3 c = c .before .before .before .before .before .before .before .trans-op .kept .1 .1 .1 .1 .1 .1 .1 .1 .0
+same-length-3 c = c .before .before .before .before .before .before .before .trans-op .kept .1 .1 .1 .1 .1 .1 .1 .1 .1 .0
 
 returns : tie.Need-returns
 unfolding one
-returns c = x-moved (c .before .before .before .before .before .before .before .before .before .before .before .before .before .before .before .before .before .before .before .before .before .before .before .pre) (c .before .before .before .before .before .before .before .before .before .before .before .copy .ensures) (c .before .before .before .before .before .before .before .trans-op .ensures) (c .before .before .before .before .before .before .before .trans-op .kept .1 .1 .1 .1 .1 .1 .1 .1 .0) (c .before .before .transform-di .ensures)
+returns c = x-moved (c .before .before .before .before .before .before .before .before .before .before .before .before .before .before .before .before .before .before .before .before .before .before .before .pre) (c .before .before .before .before .before .before .before .before .before .before .before .copy .ensures) (c .before .before .before .before .before .before .before .trans-op .ensures) (c .before .before .before .before .before .before .before .trans-op .kept .1 .1 .1 .1 .1 .1 .1 .1 .1 .0) (c .before .before .transform-di .ensures)
 
 pub move-x-spec : {M : Type 1} → statement M
 move-x-spec =

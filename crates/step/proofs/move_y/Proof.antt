@@ -50,7 +50,7 @@ smaller-requires : tie.Need-smaller-requires
 smaller-requires c κs = search needs
 
 mul-y : tie.Need-mul-y
-mul-y c = search needs
+mul-y c = omega (arith, c .before .before .before .before .before .before .before .before .before .before .before .before .before .before .before .before .before .before .before .before .before .before .before .before .before .before .pre .y-like .is, c .before .before .before .before .before .before .before .before .before .before .before .before .before .before .before .before .before .before .before .before .before .before .before .before .before .before .pre .operators .m-within, c .before .before .before .before .before .before .before .before .before .before .before .before .before .before .before .before .before .before .before .before .before .before .before .before .before .before .pre .operators .n-within)
 
 slice-write-y : tie.Need-slice-write-y
 slice-write-y c = omega (arith, c .before .before .before .before .before .before .before .before .before .before .before .before .before .before .before .before .before .before .before .before .before .before .before .before .before .before .pre .y-like .is, c .before .before .before .before .transform-di .kept)
@@ -67,7 +67,7 @@ same-length-3 c = search needs
 returns : tie.Need-returns
 unfolding one
 returns c =
-    y-moved (c .before .before .before .before .before .before .before .before .before .before .before .before .before .before .before .before .before .before .before .before .before .before .before .before .before .before .pre) (c .before .before .before .before .before .before .before .before .before .before .before .before .before .before .before .add .ensures) (c .before .before .before .before .before .before .before .before .before .before .before .before .before .before .before .add .kept .1 .1 .0) (c .before .before .before .before .before .before .before .before .before .before .op .ensures) (c .before .before .before .before .before .before .before .before .before .before .op .kept .1 .1 .1 .1 .1 .1 .1 .1 .0) (c .before .before .before .before .transform-di .ensures) (c .smaller .ensures)
+    y-moved (c .before .before .before .before .before .before .before .before .before .before .before .before .before .before .before .before .before .before .before .before .before .before .before .before .before .before .pre) (c .before .before .before .before .before .before .before .before .before .before .before .before .before .before .before .add .ensures) (c .before .before .before .before .before .before .before .before .before .before .before .before .before .before .before .add .kept .1 .1 .0) (c .before .before .before .before .before .before .before .before .before .before .op .ensures) (c .before .before .before .before .before .before .before .before .before .before .op .kept .1 .1 .1 .1 .1 .1 .1 .1 .1 .0) (c .before .before .before .before .transform-di .ensures) (c .smaller .ensures)
 
 pub move-y-spec : {M : Type 1} → statement M
 move-y-spec =

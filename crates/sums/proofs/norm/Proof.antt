@@ -54,7 +54,7 @@ unfolding div ofBits
 returns c =
     let x = c .before .before .before .before .before .before .before .args .x .now in
     let sum-is = summed-all {m = length x} (c .before .before .before .before .before .loop .inv .0) (search needs) in
-    c .scaled-norm .ensures ∙ sym (norm-of-large x (rw sum-is at (c .before .before .before .if1 .taken)) (sym (c .before .before .all-finite .ensures) ∙ c .before .if2 .taken))
+    c .scaled-norm .ensures ∙ sym (norm-of-large 1 x (rw sum-is at (c .before .before .before .if1 .taken)) (sym (c .before .before .all-finite .ensures) ∙ c .before .if2 .taken))
 
 root-requires : tie.Need-root-requires Inv-loop μ-loop
 root-requires c κs = search needs
@@ -64,7 +64,7 @@ unfolding div ofBits
 returns-2 c =
     let x = c .before .before .before .before .before .args .x .now in
     let sum-is = summed-all {m = length x} (c .before .before .before .loop .inv .0) (search needs) in
-    c .root .ensures ∙ ap (root binary64) sum-is ∙ sym (⊎-elim (λ w. norm-of-not-finite x (sym (w .1 .ensures) ∙ w .2 .left)) (λ w. norm-of-other-sum x (rw sum-is at (w .left))) (c .before .if1 .came))
+    c .root .ensures ∙ ap (root binary64) sum-is ∙ sym (⊎-elim (λ w. norm-of-not-finite 1 x (sym (w .1 .ensures) ∙ w .2 .left)) (λ w. norm-of-other-sum 1 x (rw sum-is at (w .left))) (c .before .if1 .came))
 
 pub norm-spec : {M : Type 1} → statement M
 norm-spec =

@@ -6,7 +6,7 @@ use borrow.Author.Needs.{needs}
 use borrow.Author.Tests.{not-true, not-false}
 use Rattle.rules.specs.declared.MatType.the-variants.{General}
 use Rattle.rules.specs.Arithmetic.{_+ᶠ_, _*ᶠ_}
-use Rattle.rules.specs.Matrices.{entries, product, transformed}
+use Rattle.rules.specs.Matrices.{entries, product, transformedBy}
 use Rattle.rules.proofs.Arithmetic.{Reached, reached-none, reached-more, reached-all}
 use Rattle.rules.proofs.Matrices.{Fitting, fitting}
 use Rattle.rules.proofs.Outcome.{refused, done}
@@ -60,7 +60,7 @@ same-length-2 : tie.Need-same-length-2 Inv-loop μ-loop
 same-length-2 c = search needs
 
 returns-2 : tie.Need-returns-2 Inv-loop μ-loop
-unfolding transformed
+unfolding transformedBy
 returns-2 c = let i = c .before .loop .inv in
     done (i .1 .fits) (reached-all (i .0) (search needs))
 

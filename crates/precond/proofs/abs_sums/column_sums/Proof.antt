@@ -2,13 +2,13 @@
 use mathlib.Core.Path.{_≡_}
 use lib.ListN.{length}
 use Rattle.rules.specs.Helpers.{one}
-use Rattle.rules.specs.Problem.{slices, embedIn}
+use Rattle.rules.specs.Problem.{slices}
 use Rattle.rules.specs.Vectors.{shifted}
 use Rattle.rules.specs.Prepare.{sumsX, sumsY, sumsS, sumsTau}
 use borrow.Author.Needs.{needs}
 use native.Mathlib.Omega.{arith}
 use Rattle.shape.proofs.Joined.{four-parts}
-use Rattle.precond.specs.Precond.{withSumsX, withSumsY, withSumsTau}
+use Rattle.precond.specs.Precond.{withSumsX, withSumsY, withSumsTau, operatorsIn}
 use Rattle.precond.proofs.abs_sums.column_sums.Statement.{statement}
 use Rattle.precond.proofs.abs_sums.column_sums.Tie as tie
 
@@ -98,7 +98,7 @@ returns c =
     let p-length : length p ≡ n = omega (arith, start .pre, c .before .before .before .before .before .before .before .before .before .before .before .before .before .before .sums-x .kept, c .before .before .before .before .before .before .before .before .before .before .before .before .before .before .before .sums-x-arg) in
     let q-length : length q ≡ m = omega (arith, start .pre, c .before .before .before .before .before .before .before .before .before .before .sums-y .kept, c .before .before .before .before .before .before .before .before .before .before .before .sums-y-arg) in
     let r-length : length r ≡ m = omega (arith, start .pre, c .before .before .before .before .before .before .adds .kept, c .before .before .before .before .before .before .before .adds-arg) in
-    let e = embedIn (k .shape) (k .c .now) (slices (k .a1 .now) (k .a2 .now)) (k .b .now) in
+    let e = operatorsIn (k .shape) (k .c .now) (slices (k .a1 .now) (k .a2 .now)) (k .b .now) in
     four-parts n m m 1 w p q r s p-length q-length r-length (omega (arith, start .pre))
     (withSumsX e)
     (withSumsY e)

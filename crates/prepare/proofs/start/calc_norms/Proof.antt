@@ -19,7 +19,7 @@ same-length c = search needs
 returns : tie.Need-returns
 returns c =
     let g = c .before .before .before .before .before .before .before .before .before .before .before .before .before .args in
-    let k = embedIn (g .shape) (g .c .now) (slices (g .a1 .now) (g .a2 .now)) (g .b .now) in
+    let k = embedIn (g .edition) (g .shape) (g .c .now) (slices (g .a1 .now) (g .a2 .now)) (g .b .now) in
     let x = g .x .now in
     let first = c .before .before .before .before .before .before .norm-in .ensures .0 ∙ sym (withB-is k x) in
     let second = rw first at (c .before .before .norm-in2 .ensures .0) ∙ sym (withC-is k (withB k x)) in

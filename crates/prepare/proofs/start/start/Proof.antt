@@ -21,7 +21,7 @@ same-length-2 c = search needs
 returns : tie.Need-returns
 returns c =
     let g = c .before .before .before .before .before .before .before .before .before .before .before .before .before .before .before .before .before .args in
-    let k = embedIn (g .shape) (g .c .now) (slices (g .a1 .now) (g .a2 .now)) (g .b .now) in
+    let k = embedIn (g .edition) (g .shape) (g .c .now) (slices (g .a1 .now) (g .a2 .now)) (g .b .now) in
     record {
       norms-are = c .before .before .before .before .before .before .before .before .before .calc-norms .ensures .1;
       x-is = rw (c .before .before .before .before .before .before .before .before .before .calc-norms .ensures .0) at (c .before .before .before .before .init-vecs .ensures .0) ∙ sym (startX-is k (g .x .now));

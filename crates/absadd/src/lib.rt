@@ -1,4 +1,6 @@
 // The absolute sums of matop.rs: those of the columns, or of the rows, of a matrix of either kind, with its sizes.
+#![tactic(auto)]
+
 ghost use Rattle.std.specs.Prelude.{◌+◌, ◌≤◌, ◌<◌, ◌≡◌, length};
 ghost use Rattle.rules.specs.Limits.{limit};
 ghost use Rattle.rules.specs.Outcome.{Outcome};

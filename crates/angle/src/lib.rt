@@ -1,4 +1,6 @@
 // The angle of a rotation of Jacobi's method, of the entries a = (i, i), b = (j, j) and d = (i, j).
+#![tactic(auto)]
+
 ghost use Rattle.std.specs.Prelude.{◌≡◌, ◌&&◌};
 ghost use Rattle.std.specs.Float.Ieee.{lt};
 ghost use Rattle.rules.specs.Arithmetic.{◌*ᶠ◌};

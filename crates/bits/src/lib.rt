@@ -1,4 +1,6 @@
 // Bits, the most significant first: those of bytes, and those of a number.
+#![tactic(auto)]
+
 ghost use Rattle.std.specs.Prelude.{◌^◌, ◌<◌, ◌≡◌, get_or};
 ghost use Rattle.bits.specs.Bits.{bits_of, bits_of_bytes};
 

@@ -1,4 +1,6 @@
 // One block: its places, its cone work, and whether it fits.
+#![tactic(auto)]
+
 ghost use Rattle.std.specs.Prelude.{◌≤◌, ◌≡◌, leb};
 ghost use Rattle.rules.specs.Limits.{limit};
 ghost use Rattle.rules.specs.Blocks.{places};

@@ -1,4 +1,6 @@
 // A problem as a card file: bits, the most significant first, read into words and numbers.
+#![tactic(auto)]
+
 mod digits;
 mod reader;
 
@@ -7,7 +9,7 @@ pub use reader::read_card;
 use rules::{Cols, Rows};
 
 // What is read: the packed flag, m and n, the number of cone words, max_iter and the sweep limit.
-#[derive(Drop)]
+#[derive(Clone, Copy)]
 pub enum CardRead {
     No,
     Fault(u8),

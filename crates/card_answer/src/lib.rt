@@ -1,4 +1,6 @@
 // What becomes of a card: its problem is solved.
+#![tactic(auto)]
+
 ghost use Rattle.std.specs.Prelude.{◌+◌, ◌≤◌, ◌≡◌, ◌++◌, length, drop, take};
 ghost use Rattle.rules.specs.Progress.{LoggedOutcome};
 ghost use Rattle.rules.specs.Demands.{with_period};
@@ -8,14 +10,14 @@ use card::Card_read;
 use rules::{Cols, Ending, Logged, Rows, SolverParam, Storage};
 
 // The card's fault; or m and n, how its problem ended or why it was turned away, k and q.
-#[derive(Drop)]
+#[derive(Clone, Copy)]
 pub enum Told {
     Fault(u8),
     Answered(Rows, Cols, Ending, u64, u64),
 }
 
 // The same with a progress record: what was answered has its rows written and dropped too.
-#[derive(Drop)]
+#[derive(Clone, Copy)]
 pub enum ToldLogged {
     Fault(u8),
     Answered(Rows, Cols, Logged),

@@ -1,4 +1,6 @@
 // The front of a card file, read into a buffer: as much as tells its card.
+#![tactic(auto)]
+
 mod enough;
 
 ghost use Rattle.io.specs.Counts.{IsPrefixLen};

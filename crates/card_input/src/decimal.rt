@@ -1,7 +1,7 @@
 // A number, as an argument says it in decimal digits.
 ghost use Rattle.std.specs.Prelude.{◌<◌};
 
-#[derive(Drop)]
+#[derive(Clone, Copy)]
 pub enum Number {
     Is(u32),
     None,

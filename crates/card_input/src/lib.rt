@@ -1,5 +1,7 @@
 // A program's arguments: numbers, and files as they name them, read into a buffer. Why a file can't be read is told
 // on standard error.
+#![tactic(auto)]
+
 mod decimal;
 
 ghost use Rattle.card_input.specs.Input.{Within};
@@ -9,7 +11,7 @@ pub use decimal::{Number, number_argument};
 use libc::STDIN_FILENO;
 
 // How many bytes were read, to the start of the buffer, or that they could not be.
-#[derive(Drop)]
+#[derive(Clone, Copy)]
 pub enum Input {
     Read(usize),
     Unreadable,

@@ -1,4 +1,6 @@
 // A piece of a card's run.
+#![tactic(auto)]
+
 ghost use Rattle.std.specs.Prelude.{◌≤◌, length, take};
 ghost use Rattle.rules.specs.Problem.{problem_of};
 ghost use Rattle.card_problem.specs.Problem.{problem_from};
@@ -9,14 +11,14 @@ use piece_rules::{PieceAnswer, RunRecord};
 use rules::{Cols, Rows, SolverParam, Storage};
 
 // The card's fault; or m and n, and what the piece answers.
-#[derive(Drop)]
+#[derive(Clone, Copy)]
 pub enum ToldPiece {
     Fault(u8),
     Answered(Rows, Cols, PieceAnswer),
 }
 
 // Which piece of a run: the first, or a later one, by its record.
-#[derive(Drop)]
+#[derive(Clone, Copy)]
 enum Start {
     First,
     Later(RunRecord),

@@ -1,4 +1,6 @@
 // The problem that a card says: its numbers, its parameters and how A is stored.
+#![tactic(auto)]
+
 ghost use Rattle.std.specs.Prelude.{◌+◌, ◌≡◌, length};
 ghost use Rattle.card_problem.specs.Problem.{number_at, numbers_at, parameters_of, storage_of};
 

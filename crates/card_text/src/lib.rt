@@ -1,4 +1,6 @@
 // The text of a card's answer, in a buffer.
+#![tactic(auto)]
+
 mod bytes;
 mod text_lines;
 

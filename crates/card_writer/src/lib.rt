@@ -1,4 +1,6 @@
 // The writer of a card file: a card's bits by their places, eight to a byte.
+#![tactic(auto)]
+
 ghost use Rattle.std.specs.Prelude.{◌<◌, ◌≤◌, ◌≡◌, cond, ◌++◌, length, drop, get_or};
 ghost use Rattle.card.specs.Card.{bytes_of, card_bits};
 ghost use Rattle.card_writer.specs.Bytes.{byte_at};
@@ -9,7 +11,7 @@ use card::stored;
 use rules::{Cols, Rows};
 
 // How many bytes were written.
-#[derive(Drop)]
+#[derive(Clone, Copy)]
 pub enum Written {
     No,
     Bytes(usize),

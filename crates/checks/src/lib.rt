@@ -1,4 +1,6 @@
 // When the hub is turned away: the six tests, in order. Sizes are bounded before any arithmetic on them.
+#![tactic(auto)]
+
 ghost use Rattle.std.specs.Prelude.{◌≤◌, ◌≡◌};
 ghost use Rattle.rules.specs.Limits.{limit};
 ghost use Rattle.rules.specs.Refusals.{large_sizes, some_not_finite, short_buffers, refusal};

@@ -1,4 +1,6 @@
 // A's columns, each shown where it stands, and its absolute sums: those of matop.rs, of a matrix whose dense columns may stand in two slices.
+#![tactic(auto)]
+
 ghost use Rattle.std.specs.Prelude.{◌+◌, ◌*◌, ◌-◌, ◌≤◌, ◌<◌, ◌≡◌, true, false, ◌++◌, length};
 ghost use Rattle.rules.specs.Limits.{limit};
 ghost use Rattle.rules.specs.Outcome.{Outcome};

@@ -1,4 +1,6 @@
 // The projection of one block, onto the cone of its kind.
+#![tactic(auto)]
+
 ghost use Rattle.std.specs.Prelude.{◌≡◌};
 ghost use Rattle.rules.specs.Projections.{proj_zero, proj_r_pos, proj_block, block_fits, BlockOutcome};
 

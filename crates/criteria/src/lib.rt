@@ -1,5 +1,7 @@
 // The criteria of a step, which are worked out at the front of rx: criteria_conv and criteria_inf of
 // solver.rs.
+#![tactic(auto)]
+
 ghost use Rattle.std.specs.Prelude.{◌≡◌, length};
 ghost use Rattle.rules.specs.Arithmetic.{at, ◌+ᶠ◌, ◌/ᶠ◌};
 ghost use Rattle.rules.specs.Criteria as rules;
@@ -17,7 +19,7 @@ use rules::{Criteria, Norms, Shape, SolverParam};
 use shape::{column, fits_x, operators_fit};
 
 // What a step's criteria are, or a plain no.
-#[derive(Drop)]
+#[derive(Clone, Copy)]
 pub enum Judgement {
     Of(Criteria),
     No,
@@ -202,7 +204,7 @@ fn gap(g_x: f64, g_y: f64) -> f64
 }
 
 // alpha * c * x and alpha * b * y.
-#[derive(Drop)]
+#[derive(Clone, Copy)]
 struct Products {
     cx: f64,
     by: f64,

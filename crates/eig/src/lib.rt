@@ -1,4 +1,6 @@
 // map_eig of floatgeneric.rs: the semidefinite projection.
+#![tactic(auto)]
+
 ghost use Rattle.std.specs.Prelude.{◌+◌, ◌*◌, ◌≤◌, ◌<◌, ◌≡◌, true, length, drop};
 ghost use Rattle.rules.specs.Arithmetic.{+0, at, each, tabulate};
 ghost use Rattle.rules.specs.Jacobi.{packed, in_packed, in_square, jacobi, sweeps_fit};

@@ -1,5 +1,7 @@
 // The operator of the self-dual embedding, transposed, from vectors like y (n, m, 1) to vectors like x
 // (n, m, m, 1): trans_op of SelfDualEmbed in solver.rs.
+#![tactic(auto)]
+
 ghost use Rattle.std.specs.Prelude.{◌≡◌, length};
 ghost use Rattle.rules.specs.Outcome.{Outcome};
 ghost use Rattle.rules.specs.Problem.{slices, embed_in};

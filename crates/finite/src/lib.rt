@@ -1,4 +1,6 @@
 // What is finite: neither infinite nor a NaN.
+#![tactic(auto)]
+
 ghost use Rattle.std.specs.Prelude.{◌≡◌};
 ghost use Rattle.rules.specs.Helpers.{is_finite, all_finite};
 

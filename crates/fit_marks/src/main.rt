@@ -6,6 +6,8 @@
 //     offset + drift * t_i - e <= d_i   and   -offset - drift * t_i - e <= -d_i.
 //
 // That is A x + s = b with x = (offset, drift, e), two rows to a mark, and s in a nonnegative block.
+#![tactic(auto)]
+
 use libc::STDOUT_FILENO;
 use rules::{Cols, Ending, Rows, SolverParam, Storage};
 

@@ -1,4 +1,6 @@
 // The float helpers of document 01: each answers for every f64.
+#![tactic(auto)]
+
 ghost use Rattle.std.specs.Prelude.{◌≡◌, cond, ◌&&◌};
 ghost use Rattle.std.specs.Float.Ieee.{eq};
 ghost use Rattle.rules.specs.Arithmetic.{+0};

@@ -1,4 +1,6 @@
 // Grouping a list of blocks: each has its part of the lent slice, in list order.
+#![tactic(auto)]
+
 ghost use Rattle.std.specs.Prelude.{◌≡◌, true};
 ghost use Rattle.rules.specs.Outcome.{Outcome};
 ghost use Rattle.rules.specs.Blocks.{blocks_of};

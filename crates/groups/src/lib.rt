@@ -1,4 +1,6 @@
 // A cone list with groups, and the plain list that it says. Everything else reads plain lists: this crate alone knows groups.
+#![tactic(auto)]
+
 ghost use Rattle.std.specs.Prelude.{◌+◌, ◌-◌, ◌≤◌, ◌≡◌, true, length};
 ghost use Rattle.rules.specs.Groups.{opens, own_of, item_of, plain_at};
 ghost use Rattle.groups.specs.Flatten.{Put, FlattenOutcome, count_of};
@@ -6,7 +8,7 @@ ghost use Rattle.groups.specs.Flatten.{Put, FlattenOutcome, count_of};
 use rules::MOST_DEEP;
 
 // What making a plain list answers: how many words it has, or a plain no.
-#[derive(Drop)]
+#[derive(Clone, Copy)]
 pub enum Flattened {
     Words(usize),
     No,

@@ -1,4 +1,6 @@
 // The product with a matrix of either kind, which may stand in two slices, its sums by halves: edition two's.
+#![tactic(auto)]
+
 ghost use Rattle.std.specs.Prelude.{◌≤◌, ◌<◌, ◌≡◌, ◌++◌, length};
 ghost use Rattle.rules.specs.Limits.{limit};
 ghost use Rattle.rules.specs.Arithmetic.{at};

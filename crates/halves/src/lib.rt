@@ -1,4 +1,6 @@
 // Sums by halves: how edition two adds a range up.
+#![tactic(auto)]
+
 ghost use Rattle.std.specs.Prelude.{◌≤◌, ◌≡◌, length};
 ghost use Rattle.rules.specs.Arithmetic.{at};
 ghost use Rattle.rules.specs.Editions.{sum_by_halves};

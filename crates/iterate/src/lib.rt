@@ -1,4 +1,6 @@
 // A piece of a run: its steps, up to the one that ends it or as many as are given.
+#![tactic(auto)]
+
 ghost use Rattle.std.specs.Prelude.{◌+◌, ◌-◌, ◌<◌, ◌≡◌, length};
 ghost use Rattle.rules.specs.Problem.{slices, problem_in};
 ghost use Rattle.rules.specs.Product.{none};
@@ -14,7 +16,7 @@ use rules::{Criteria, Ending, Norms, Shape, SolverParam, Verdict};
 use whole_step::{StepAnswer, whole_step};
 
 // The rows of a progress record that were written, and those that were dropped.
-#[derive(Drop)]
+#[derive(Clone, Copy)]
 pub struct RowCounts {
     pub written: u64,
     pub dropped: u64,
@@ -22,14 +24,14 @@ pub struct RowCounts {
 
 // What a piece answers: what its last step said, the steps by then, the rotations made and its rows of the progress record, or a plain
 // no.
-#[derive(Drop)]
+#[derive(Clone, Copy)]
 pub enum Iterated {
     Made(Verdict, u64, u64, RowCounts),
     No,
 }
 
 // What step k says of a run: its verdict with the rotations that it made, or a plain no.
-#[derive(Drop)]
+#[derive(Clone, Copy)]
 enum StepSaid {
     Said(Verdict, u64),
     No,

@@ -1,4 +1,6 @@
 // Jacobi's method, jacobi_eig of floatgeneric.rs. The matrix is a packed upper triangle, the vectors are n columns of n.
+#![tactic(auto)]
+
 ghost use Rattle.std.specs.Prelude.{◌+◌, ◌-◌, ◌*◌, ◌≤◌, ◌<◌, ◌≡◌, length};
 ghost use Rattle.rules.specs.Limits.{limit};
 ghost use Rattle.rules.specs.Matrices.{packed_place};
@@ -21,7 +23,7 @@ fn place(r: usize, c: usize) -> usize
 }
 
 // The three entries that rows and columns i and j have in common: (i, i), (j, j) and (i, j).
-#[derive(Drop)]
+#[derive(Clone, Copy)]
 struct Corners {
     a: f64,
     b: f64,

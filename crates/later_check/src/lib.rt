@@ -1,4 +1,6 @@
 // When a later piece of a run is turned away: the six tests of a run, in order, and then whether its record is stale.
+#![tactic(auto)]
+
 mod pairs;
 mod stale;
 

@@ -1,4 +1,6 @@
 // Problems at the limits, which run, and beyond them, which are turned away. replay_runs compares such runs with the original.
+#![tactic(auto)]
+
 use libc::STDOUT_FILENO;
 use lines::write_case;
 use rules::{Answer, Cols, LIMIT, MOST_WORDS, Rows, SolverParam, Storage};
@@ -29,7 +31,7 @@ const NONNEGATIVE: u16 = 8192;
 const SEMIDEFINITE: u16 = 32768;
 
 // What a problem is answered: the number of its refusal or ending, and the steps taken.
-#[derive(Drop)]
+#[derive(Clone, Copy)]
 struct Told {
     number: u64,
     steps: u64,

@@ -1,5 +1,7 @@
 // The vector routines of floatgeneric.rs, and one that clears. A routine that takes two lengths answers a plain no, and
 // changes nothing, where they don't fit; no length is too large.
+#![tactic(auto)]
+
 ghost use Rattle.std.specs.Prelude.{◌≡◌, ◌&&◌, length};
 ghost use Rattle.rules.specs.Outcome.{Outcome};
 ghost use Rattle.rules.specs.Prepare.{zeros};

@@ -1,4 +1,6 @@
 // Reading a list from standard input, and writing counts.
+#![tactic(auto)]
+
 use libc::{STDIN_FILENO, STDOUT_FILENO};
 
 // Whether so many bytes were read, to the start of a buffer.

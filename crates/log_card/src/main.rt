@@ -1,6 +1,8 @@
 // Solves cards with a progress record: the first argument is the period of its rows, the others name files as
 // those of solve_card do. For each card the first line of its answer is written to standard output; then, of an
 // ending, the rows written and dropped, and each row that was written: its step, and four numbers.
+#![tactic(auto)]
+
 mod period;
 mod rows;
 

@@ -1,7 +1,7 @@
 // The period, as an argument says it in decimal digits.
 ghost use Rattle.std.specs.Prelude.{◌<◌};
 
-#[derive(Drop)]
+#[derive(Clone, Copy)]
 pub(crate) enum Period {
     Every(u32),
     None,

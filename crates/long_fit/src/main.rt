@@ -17,6 +17,8 @@
 //
 // That all terms are as large as each other is the hard case: roundings from the left lean to one side for long stretches. Of terms of many sizes most
 // cancel, and the editions differ less.
+#![tactic(auto)]
+
 use libc::STDOUT_FILENO;
 use rules::{Answer, Cols, Ending, MatType, Rows, SolverParam, Storage};
 
@@ -42,7 +44,7 @@ const SECOND_ORDER: u16 = 16384;
 const DECIMALS: usize = 16;
 
 // A fit: its rows, half of the time between two marks, and what the norm of the misses may be.
-#[derive(Drop)]
+#[derive(Clone, Copy)]
 struct Fit {
     m: usize,
     half: f64,
@@ -50,7 +52,7 @@ struct Fit {
 }
 
 // What a run came to, and whether it took all of its steps.
-#[derive(Drop)]
+#[derive(Clone, Copy)]
 struct Told {
     offset: f64,
     drift: f64,

@@ -1,4 +1,6 @@
 // The operators of matop.rs: a matrix of either kind, with its sizes, times a vector.
+#![tactic(auto)]
+
 pub mod split;
 
 ghost use Rattle.std.specs.Prelude.{◌≡◌};

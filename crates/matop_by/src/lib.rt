@@ -1,4 +1,6 @@
 // The operators of matop.rs, by edition: those of edition one, or the same with their sums by halves.
+#![tactic(auto)]
+
 pub mod split;
 
 ghost use Rattle.std.specs.Prelude.{◌≡◌};

@@ -1,4 +1,6 @@
 // The sizes of a matrix, dense by columns or packed, and whether what is stored and the vectors beside it fit them.
+#![tactic(auto)]
+
 ghost use Rattle.std.specs.Prelude.{◌≤◌, ◌≡◌, ◌++◌};
 ghost use Rattle.rules.specs.Limits.{limit};
 ghost use Rattle.rules.specs.Matrices.{n_row, n_col, stored_length, stored_fits, transform_fits};

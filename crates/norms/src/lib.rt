@@ -1,4 +1,6 @@
 // The norm, by edition: sums::norm, or the same with its squares added up by halves.
+#![tactic(auto)]
+
 ghost use Rattle.std.specs.Prelude.{◌≤◌, ◌≡◌, length};
 ghost use Rattle.rules.specs.Arithmetic.{at};
 ghost use Rattle.rules.specs.Editions.{sum_by_halves};

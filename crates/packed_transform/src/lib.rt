@@ -1,4 +1,6 @@
 // The product with a symmetric matrix, packed.
+#![tactic(auto)]
+
 ghost use Rattle.std.specs.Prelude.{◌+◌, ◌≤◌, ◌<◌, ◌≡◌, false, length};
 ghost use Rattle.rules.specs.Limits.{limit};
 ghost use Rattle.rules.specs.Arithmetic.{◌+ᶠ◌, ◌*ᶠ◌, each};

@@ -1,4 +1,6 @@
 // What a problem's parameters may be, and how they are read.
+#![tactic(auto)]
+
 ghost use Rattle.std.specs.Prelude.{◌≡◌};
 ghost use Rattle.rules.specs.Refusals.{bad_eps, bad_param};
 ghost use Rattle.rules.specs.Problem.{as_read};

@@ -1,5 +1,7 @@
 // Numbers as 64-bit patterns, for programs that read or write them. A pattern keeps a NaN's digits;
 // a number does not, so a NaN is written as 7ff8000000000000.
+#![tactic(auto)]
+
 ghost use Rattle.std.specs.Prelude.{◌≡◌, ◌+◌, ◌<◌, get_or};
 ghost use Rattle.std.specs.Float.Ieee as Ieee;
 ghost use Rattle.std.specs.Float.{binary64};

@@ -3,6 +3,8 @@
 // file, or none after the last group, begins a run. Standard output has, for each group, what became of the piece:
 // what solve_card writes where the run has ended, the card has a fault or is refused; `Refused 7` for a state that
 // does not fit; `Halted`, k and q for a run that goes on. After a run that halts or has ended its state is written.
+#![tactic(auto)]
+
 mod state;
 mod text;
 

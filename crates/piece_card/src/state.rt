@@ -23,7 +23,7 @@ const MOST: usize = card_text::TEXT_ROOM + 17 * WORDS + 100;
 
 // The record of a state whose words were read, or why there is none. Of a file that can't be read, standard error has
 // the reason.
-#[derive(Drop)]
+#[derive(Clone, Copy)]
 pub(crate) enum State {
     Read(RunRecord),
     NoFile,
@@ -100,7 +100,7 @@ fn read_words(bytes: &[u8], words: &mut [u64]) -> bool
 }
 
 // What a line says.
-#[derive(Drop)]
+#[derive(Clone, Copy)]
 enum Line {
     Word(u64),
     No,

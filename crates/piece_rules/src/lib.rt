@@ -1,9 +1,11 @@
 // What is right of a run in pieces. The rules stand in specs/, in the order and words of request (xii) of document 02; this file declares the
 // types that they and the code share.
+#![tactic(auto)]
+
 use rules::{Ending, Logged, Norms, SolverParam};
 
 // The sizes of a problem, the number of its cone words and the lengths of the three buffers that are lent for it.
-#[derive(Drop)]
+#[derive(Clone, Copy)]
 pub struct RunLengths {
     pub cols: usize,
     pub rows: usize,
@@ -15,7 +17,7 @@ pub struct RunLengths {
 
 // What is kept of a run between two of its pieces, beside its buffers: lengths, parameters, the norms of b and c, tau, the steps k, the rotations q, the
 // rows written and dropped, and whether it has ended.
-#[derive(Drop)]
+#[derive(Clone, Copy)]
 pub struct RunRecord {
     pub lengths: RunLengths,
     pub par: SolverParam,
@@ -29,7 +31,7 @@ pub struct RunRecord {
 }
 
 // What the seven tests say of a later piece of a run.
-#[derive(Drop)]
+#[derive(Clone, Copy)]
 pub enum LaterRefusal {
     Accepted,
     Refused(Ending),
@@ -37,7 +39,7 @@ pub enum LaterRefusal {
 }
 
 // What a piece of a run answers: why it was turned away, or its record, with the answer of the run where it has ended.
-#[derive(Drop)]
+#[derive(Clone, Copy)]
 pub enum PieceAnswer {
     Refused(Ending),
     StaleRun,

@@ -1,4 +1,6 @@
 // A run in pieces: it halts after a given number of steps without an ending, and is taken up later from its buffers and a small record.
+#![tactic(auto)]
+
 mod entry;
 mod split_entry;
 mod stepping;

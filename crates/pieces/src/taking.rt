@@ -13,7 +13,7 @@ use prepare::Prepared;
 use rules::{LIMIT, MOST_WORDS, Shape, SolverParam};
 
 // Which piece of a run: the first, or a later one, taken up by its record.
-#[derive(Drop)]
+#[derive(Clone, Copy)]
 pub(crate) enum Start {
     First,
     Later(RunRecord),

@@ -1,4 +1,6 @@
 // The preconditioner: the two diagonals, calc_precond of solver.rs.
+#![tactic(auto)]
+
 mod abs_sums;
 
 ghost use Rattle.std.specs.Prelude.{◌≤◌, ◌≡◌};

@@ -1,4 +1,6 @@
 // What stands before the first step: the norms, the first x and y, and the two diagonals.
+#![tactic(auto)]
+
 mod start;
 
 ghost use Rattle.rules.specs.Problem.{slices, problem_in};
@@ -9,7 +11,7 @@ use rules::{Norms, Shape, SolverParam};
 use shape::{fits_x, fits_y};
 
 // What preparing answers: the norms of b and c, or a plain no.
-#[derive(Drop)]
+#[derive(Clone, Copy)]
 pub enum Prepared {
     Done(Norms),
     No,

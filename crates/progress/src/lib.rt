@@ -1,4 +1,6 @@
 // A progress record: which steps have a row, what stands in it, and where it is put.
+#![tactic(auto)]
+
 ghost use Rattle.std.specs.Prelude.{◌≡◌};
 ghost use Rattle.rules.specs.Outcome.{Outcome};
 ghost use Rattle.rules.specs.Progress.{is_due, row_of, row_fits, row_put};

@@ -1,4 +1,6 @@
 // The cones of a step: all dual blocks of a vector like x, then all primal blocks.
+#![tactic(auto)]
+
 ghost use Rattle.std.specs.Prelude.{◌≤◌, true, length};
 ghost use Rattle.rules.specs.Limits.{limit};
 ghost use Rattle.rules.specs.Product.{ProductOutcome};

@@ -1,6 +1,8 @@
 // What a run answered and left, held to the list. From the answer's place on a record holds: its number,
 // k, q, three words of what the ending carries, the required places of work and of cone work, and then
 // what these places hold.
+#![tactic(auto)]
+
 ghost use Rattle.std.specs.Prelude.{◌+◌, ◌^◌, ◌<◌, ◌≤◌, true, ◌≡◌, [], length, take, drop};
 ghost use Rattle.replay.specs.Records.{stand_from};
 ghost use Rattle.rules.specs.Outcome.{on_paper};

@@ -1,5 +1,7 @@
 // Answers many cards: standard input holds their number and then each card with its length before it, as
 // compare/README.md says. What is written must be the original's answers, one after another.
+#![tactic(auto)]
+
 use libc::{STDIN_FILENO, STDOUT_FILENO};
 
 // Reads a card and answers it: whether there was a whole one, and all of the answer was written.

@@ -1,6 +1,8 @@
 // Replays the original's answers of the projections and the grouping: standard input holds the number
 // of records and then the records, as compare/README.md says. Each answer is had again from this
 // repository's routines and held to the list. Then come the cases of cones worked by hand.
+#![tactic(auto)]
+
 mod operations;
 
 use libc::STDOUT_FILENO;

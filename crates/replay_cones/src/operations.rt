@@ -6,7 +6,7 @@ use replay_lists::lists;
 use replay_semidefinite::semidefinite;
 use rules::Cone;
 
-#[derive(Drop)]
+#[derive(Clone, Copy)]
 pub enum Found {
     Agrees,
     Differs,

@@ -7,14 +7,14 @@ use replay_problems::{logs, room, runs};
 use rules::{Cols, Rows, SolverParam, Storage};
 
 // How A is handed over: in one slice; or, dense, in two, with so many columns in the first.
-#[derive(Drop)]
+#[derive(Clone, Copy)]
 pub enum Way {
     Whole(Storage),
     Split(Cols),
 }
 
 // Parameters and sizes, and where the vectors end among the problem's numbers: c, A with its first slice, b.
-#[derive(Drop)]
+#[derive(Clone, Copy)]
 pub struct Handed {
     pub par: SolverParam,
     pub rows: Rows,
@@ -27,7 +27,7 @@ pub struct Handed {
 }
 
 // The lengths of the three buffers, what all of their places hold before, and what the uncut run comes to: the number of its answer, k and q.
-#[derive(Drop)]
+#[derive(Clone, Copy)]
 pub struct Lent {
     pub work: usize,
     pub cone_work: usize,
@@ -40,7 +40,7 @@ pub struct Lent {
 }
 
 // A record's problem, or that there is no room for its numbers.
-#[derive(Drop)]
+#[derive(Clone, Copy)]
 pub enum ReadProblem {
     Problem(Handed),
     No,

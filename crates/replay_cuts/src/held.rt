@@ -7,7 +7,7 @@ use rules::{Answer, Ending, Logged};
 
 // How a run is cut: once, after so many steps; into pieces of one step; the same with a piece of no step after each; or into pieces of up to 7 or up to 63
 // steps, as they are drawn.
-#[derive(Drop)]
+#[derive(Clone, Copy)]
 pub enum Cuts {
     After(u32),
     Ones,
@@ -23,7 +23,7 @@ const ALL: u32 = 4294967295;
 const MOST_PIECES: u64 = 20000;
 
 // What a run in pieces has come to: it goes on; it was answered; or a piece answered what it should not.
-#[derive(Drop)]
+#[derive(Clone, Copy)]
 pub enum Came {
     Open,
     Whole(Logged),
@@ -31,7 +31,7 @@ pub enum Came {
 }
 
 // A run in pieces: how it is taken up next, the steps and the pieces that are behind, the last number drawn, and what it has come to.
-#[derive(Drop)]
+#[derive(Clone, Copy)]
 pub struct InPieces {
     pub start: Start,
     pub steps: u64,
@@ -41,7 +41,7 @@ pub struct InPieces {
 }
 
 // A run to which others are held: its problem, what all places of its buffers held before, and its answer.
-#[derive(Drop)]
+#[derive(Clone, Copy)]
 pub struct Uncut {
     pub handed: Handed,
     pub before: f64,

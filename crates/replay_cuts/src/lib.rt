@@ -1,4 +1,6 @@
 // Problems had again in pieces, and held to the uncut run.
+#![tactic(auto)]
+
 pub mod handed;
 pub mod held;
 pub mod runs;

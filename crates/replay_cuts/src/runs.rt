@@ -6,7 +6,7 @@ use piece_rules::{PieceAnswer, RunRecord};
 use rules::Logged;
 
 // Which piece of a run: the first, or a later one by its record.
-#[derive(Drop)]
+#[derive(Clone, Copy)]
 pub enum Start {
     First,
     Later(RunRecord),

@@ -1,6 +1,8 @@
 // Replays runs in an edition of sums: standard input holds the number of records and then the records, as compare/README.md says. Each problem is run
 // by solver::solve in its edition, and its answer and all of both buffers are held to the list. One in edition two is then run in edition one, and comes to the same
 // or to another answer, as the record says. Each dense one is run by solver::solve_split in its edition, cut in each of five ways, and held to the same record.
+#![tactic(auto)]
+
 use libc::STDOUT_FILENO;
 use replay_problems::runs::{Cut, Found};
 use replay_problems::{cuts, editions, runs};

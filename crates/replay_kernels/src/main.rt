@@ -1,6 +1,8 @@
 // Replays the original's answers of the vector and matrix routines and the float helpers: standard
 // input holds the number of records and then the records, as compare/README.md says. Each answer is
 // had again from this repository's routines and held to the list.
+#![tactic(auto)]
+
 mod operations;
 
 use libc::STDOUT_FILENO;

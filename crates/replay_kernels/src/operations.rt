@@ -6,7 +6,7 @@ use replay_routines::routines;
 use replay_routines::routines::Routine;
 use rules::{Cols, MatType, Rows};
 
-#[derive(Drop)]
+#[derive(Clone, Copy)]
 pub enum Found {
     Agrees,
     Differs,

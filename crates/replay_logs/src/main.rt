@@ -1,6 +1,8 @@
 // Replays runs with a progress record: standard input holds the number of records and then the records, as compare/README.md says. Each problem is
 // run by solver::solve_logged, and its answer, all of both buffers, the rows written and dropped and every place of the log are held to
 // the list. Each dense one is then run by solver::solve_split_logged, cut after so many columns, and held to the same record.
+#![tactic(auto)]
+
 use libc::STDOUT_FILENO;
 use replay_problems::runs::{Cut, Found};
 use replay_problems::{cuts, logs, runs};

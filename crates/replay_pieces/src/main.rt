@@ -1,6 +1,8 @@
 // Replays runs in pieces: standard input holds the list of runs with a progress record, as compare/README.md says. Each problem is run uncut in either edition of
 // sums, its matrix in one slice and, if it is dense, once more in two. Each of these runs is then cut, in many ways, and each cut run is held to the uncut one:
 // every piece before the last halts after the steps that it was given, the last one answers as the uncut run, and all three buffers are the same, place by place.
+#![tactic(auto)]
+
 use libc::STDOUT_FILENO;
 use replay::record;
 use replay_cuts::handed::{Handed, Lent, ReadProblem};
@@ -43,7 +45,7 @@ const PIECES: usize = 2 * COUNTED + 1;
 const TALLIED: usize = 2 * COUNTED + 2;
 
 // How a run is cut in the way whose turn it is, if it is.
-#[derive(Drop)]
+#[derive(Clone, Copy)]
 enum Turn {
     Cut(Cuts),
     None,

@@ -1,4 +1,6 @@
 // A record's problem, run again and compared.
+#![tactic(auto)]
+
 pub mod cuts;
 pub mod editions;
 pub mod logs;

@@ -18,7 +18,7 @@ pub const WORD_ROOM: usize = MOST_WORDS + 8;
 pub const LOG_ROOM: usize = 1024;
 
 // A vector in a record: number k of its length is the one at k mod given after its place.
-#[derive(Drop)]
+#[derive(Clone, Copy)]
 pub struct Vector {
     pub length: usize,
     pub given: usize,

@@ -8,7 +8,7 @@ use replay::record;
 use rules::{Answer, Cols, Logged, Rows, SolverParam, Storage};
 
 // The answer's number in the list, and whether it is had here.
-#[derive(Drop)]
+#[derive(Clone, Copy)]
 pub enum Found {
     Agrees(usize),
     Differs(usize),
@@ -16,7 +16,7 @@ pub enum Found {
 }
 
 // How A is handed over: in one slice; in two, with so many columns in the first; or one slice, which holds half of its columns, for both halves.
-#[derive(Drop)]
+#[derive(Clone, Copy)]
 pub enum Cut {
     Whole,
     After(usize),

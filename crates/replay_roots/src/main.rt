@@ -1,15 +1,17 @@
 // Replays the original's square roots: standard input holds the number of records and then, for each,
 // the pattern of a number and that of its root, as compare/README.md says. Each root is taken again
 // by root::root and held to the list.
+#![tactic(auto)]
+
 use libc::STDOUT_FILENO;
 
-#[derive(Drop)]
+#[derive(Clone, Copy)]
 struct Tally {
     agree: u64,
     differ: u64,
 }
 
-#[derive(Drop)]
+#[derive(Clone, Copy)]
 enum Found {
     Agrees,
     Differs,

@@ -2,7 +2,7 @@
 use replay::{record, room};
 use rules::{Cols, MatType, Rows};
 
-#[derive(Drop)]
+#[derive(Clone, Copy)]
 pub enum Routine {
     Copy,
     // alpha

@@ -3,6 +3,8 @@
 // are held to the list. Each dense one is then run by solver::solve_split, cut after so many columns, and
 // held to the same record. A matrix of which half stands in the record is run by solver::solve_split alone, with
 // that half for both. Then come the runs worked by hand.
+#![tactic(auto)]
+
 mod cases;
 
 use libc::STDOUT_FILENO;

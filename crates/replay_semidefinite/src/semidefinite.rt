@@ -9,7 +9,7 @@ use replay::{record, room};
 use rules::{Cone, Projection, SolverParam};
 
 // The routines that project such a block.
-#[derive(Drop)]
+#[derive(Clone, Copy)]
 enum Way {
     MapEig,
     Primal,

@@ -1,4 +1,6 @@
 // The root of every f64, and the root of 2.
+#![tactic(auto)]
+
 mod roots;
 
 ghost use Rattle.std.specs.Prelude.{◌≡◌};

@@ -1,5 +1,7 @@
 // What is right. The rules stand in specs/, in document 01's order and words; this file declares
 // the types that the rules and the code share.
+#![tactic(auto)]
+
 ghost use Rattle.std.specs.Prelude.{◌≡◌};
 ghost use Rattle.rules.specs.Parameters.{param_made, param_of, with_eps_zero, with_log_period, with_edition, defaults};
 
@@ -7,22 +9,22 @@ ghost use Rattle.rules.specs.Parameters.{param_made, param_of, with_eps_zero, wi
 pub const LIMIT: usize = 1024;
 
 // Number of rows and number of columns are types of their own, so the two can't be swapped by mistake.
-#[derive(Drop)]
+#[derive(Clone, Copy)]
 pub struct Rows(pub usize);
 
-#[derive(Drop)]
+#[derive(Clone, Copy)]
 pub struct Cols(pub usize);
 
 // The kinds of matrix, with their sizes: any matrix by columns, or a symmetric one, of which the upper
 // triangle is stored, by columns.
-#[derive(Drop)]
+#[derive(Clone, Copy)]
 pub enum MatType {
     General(Rows, Cols),
     SymPack(Rows),
 }
 
 // A block of the cone list, with its number of places; of a semidefinite block, its order.
-#[derive(Drop)]
+#[derive(Clone, Copy)]
 pub enum Cone {
     Zero(usize),
     RPos(usize),
@@ -32,7 +34,7 @@ pub enum Cone {
 }
 
 // What a word of a plain cone list says.
-#[derive(Drop)]
+#[derive(Clone, Copy)]
 pub enum Word {
     Block(Cone),
     Bad,
@@ -42,7 +44,7 @@ pub enum Word {
 pub const MOST_SWEEPS: u64 = 64;
 
 // How a matrix is stored: all of it by columns, or the upper triangle of a symmetric one.
-#[derive(Drop)]
+#[derive(Clone, Copy)]
 pub enum Storage {
     Dense,
     Packed,
@@ -50,7 +52,7 @@ pub enum Storage {
 
 // The sizes of a problem, how its matrix is stored, and how it stands in two slices: of a dense one the first holds so many columns and
 // the second the rest; a packed one stands in the first.
-#[derive(Drop)]
+#[derive(Clone, Copy)]
 pub struct Shape {
     pub rows: Rows,
     pub cols: Cols,
@@ -70,7 +72,7 @@ pub const MOST_DEEP: usize = 8;
 pub const MOST_PLACES: usize = (18446744073709551615 / MOST_SWEEPS) as usize;
 
 // The parameters of a run.
-#[derive(Drop)]
+#[derive(Clone, Copy)]
 pub struct SolverParam {
     pub max_iter: u64,
     pub eps_acc: f64,
@@ -188,7 +190,7 @@ impl SolverParam {
 
 // What projecting one block answers: the rotations that it took, or those after which its sweeps had
 // not ended, or a plain no.
-#[derive(Drop)]
+#[derive(Clone, Copy)]
 pub enum Projection {
     Done(u64),
     Failed(u64),
@@ -197,7 +199,7 @@ pub enum Projection {
 
 // What projecting a list of blocks answers: the rotations that it took, or the block that failed with
 // the rotations up to there, or a plain no.
-#[derive(Drop)]
+#[derive(Clone, Copy)]
 pub enum Product {
     Done(u64),
     Failed(usize, u64),
@@ -205,7 +207,7 @@ pub enum Product {
 }
 
 // How a run ends, with the criteria that decided it, or why the hub is turned away.
-#[derive(Drop)]
+#[derive(Clone, Copy)]
 pub enum Ending {
     BadParam,
     TooLarge,
@@ -226,21 +228,21 @@ pub enum Ending {
 }
 
 // What the six tests say of a problem.
-#[derive(Drop)]
+#[derive(Clone, Copy)]
 pub enum Refusal {
     Accepted,
     Refused(Ending),
 }
 
 // The Frobenius norms of b and c.
-#[derive(Drop)]
+#[derive(Clone, Copy)]
 pub struct Norms {
     pub b: f64,
     pub c: f64,
 }
 
 // The criteria of a step.
-#[derive(Drop)]
+#[derive(Clone, Copy)]
 pub enum Criteria {
     // tau above eps_zero: primal, dual, gap
     Conv(f64, f64, f64),
@@ -249,14 +251,14 @@ pub enum Criteria {
 }
 
 // Whether a run goes on after a step.
-#[derive(Drop)]
+#[derive(Clone, Copy)]
 pub enum Verdict {
     GoesOn,
     Ends(Ending),
 }
 
 // What a run answers: the ending, the steps k and the Jacobi rotations q.
-#[derive(Drop)]
+#[derive(Clone, Copy)]
 pub struct Answer {
     pub ending: Ending,
     pub steps: u64,
@@ -264,7 +266,7 @@ pub struct Answer {
 }
 
 // What a run with a progress record answers: the same, and the rows written and dropped.
-#[derive(Drop)]
+#[derive(Clone, Copy)]
 pub struct Logged {
     pub answer: Answer,
     pub written: u64,

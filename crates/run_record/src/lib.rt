@@ -1,4 +1,6 @@
 // A run's record as 21 words of 64 bits, its numbers as their patterns: the writer and the reader.
+#![tactic(auto)]
+
 ghost use Rattle.std.specs.Prelude.{◌<◌, ◌≤◌, ◌≡◌, cond, ◌++◌, length, drop, get_or};
 ghost use Rattle.run_record.specs.Record.{record_words, is_pattern, are_patterns, is_record, parameters_in, record_of, record_in, WriteRecordOutcome};
 
@@ -9,7 +11,7 @@ use rules::{Norms, SolverParam};
 pub const RECORD_WORDS: usize = 21;
 
 // The record that words say, or a plain no.
-#[derive(Drop)]
+#[derive(Clone, Copy)]
 pub enum ReadRecord {
     Read(RunRecord),
     No,

@@ -1,5 +1,7 @@
 // The projections of a block onto the second-order cone and onto the rotated one. Each answers a plain no, and changes
 // nothing, where there are more places than a block may have.
+#![tactic(auto)]
+
 ghost use Rattle.std.specs.Prelude.{◌<◌, ◌≡◌, true, leb, length, set};
 ghost use Rattle.rules.specs.Limits.{limit};
 ghost use Rattle.rules.specs.Outcome.{Outcome};

@@ -1,4 +1,6 @@
 // A run's vectors come into work, as its ending says.
+#![tactic(auto)]
+
 mod parts;
 mod settling;
 

@@ -1,5 +1,7 @@
 // What the rooms of the solver share: the matrix by how it is stored, and whether slices have the lengths that a
 // shape asks.
+#![tactic(auto)]
+
 ghost use Rattle.std.specs.Prelude.{◌≡◌};
 ghost use Rattle.rules.specs.Problem as rules;
 ghost use Rattle.rules.specs.Problem.{matrix_in, slices};

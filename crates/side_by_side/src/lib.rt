@@ -1,4 +1,6 @@
 // What the products share that add up several sums side by side.
+#![tactic(auto)]
+
 ghost use Rattle.rules.specs.Arithmetic.{◌+ᶠ◌, ◌*ᶠ◌, at, each};
 ghost use Rattle.rules.specs.Outcome.{Outcome};
 ghost use Rattle.rules.specs.Vectors.{same_length};

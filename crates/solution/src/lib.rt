@@ -1,4 +1,6 @@
 // x is the first n places of work, y the next m.
+#![tactic(auto)]
+
 ghost use Rattle.std.specs.Prelude.{◌≡◌};
 ghost use Rattle.rules.specs.Run.{solution_x, solution_y};
 

@@ -1,6 +1,8 @@
 // Solves cards: the files that the arguments name, one after another, `-` being standard input, which is
 // also solved where there is no argument. The answers are written to standard output; why a file can't be
 // read, to standard error.
+#![tactic(auto)]
+
 use card_file::ENOUGH;
 use card_input::Input;
 use libc::STDOUT_FILENO;

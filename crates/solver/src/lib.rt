@@ -1,4 +1,6 @@
 // The solver: its entry points, which check for themselves.
+#![tactic(auto)]
+
 mod entry;
 mod solving;
 

@@ -1,4 +1,6 @@
 // Runs and refusals of a small dense problem in two slices, and its columns, worked by hand.
+#![tactic(auto)]
+
 use libc::STDOUT_FILENO;
 use lines::write_case;
 use rules::{Cols, LIMIT, Rows, SolverParam};
@@ -7,7 +9,7 @@ use rules::{Cols, LIMIT, Rows, SolverParam};
 const ROOM: usize = LIMIT + 1;
 
 // A slice: so many numbers, all the same.
-#[derive(Drop)]
+#[derive(Clone, Copy)]
 struct Slice {
     length: usize,
     number: f64,

@@ -19,7 +19,7 @@ const WORD: u16 = 32771;
 const NOT_KEPT: u64 = 9;
 
 // What may be altered in a call: a tolerance, the columns, whether c is too long, the cone word, a number of b, and whether work is too short.
-#[derive(Drop)]
+#[derive(Clone, Copy)]
 pub(crate) struct Call {
     eps_acc: f64,
     eps_zero: f64,

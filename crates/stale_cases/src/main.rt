@@ -1,5 +1,7 @@
 // A run of one small problem in pieces. After a first piece of 3 steps its record, its buffers or the call is altered, and a later piece is asked for: which of
 // them are stale, which refusals come first, what is not stale, and that a run from altered buffers still ends. Worked by hand.
+#![tactic(auto)]
+
 mod alter;
 mod call;
 

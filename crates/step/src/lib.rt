@@ -1,4 +1,6 @@
 // One step: update_vecs of solver.rs.
+#![tactic(auto)]
+
 ghost use Rattle.std.specs.Prelude.{◌≤◌, ◌≡◌, true, length};
 ghost use Rattle.rules.specs.Limits.{limit};
 ghost use Rattle.rules.specs.Problem.{slices, problem_in, embed_in};

@@ -1,4 +1,6 @@
 // Sums over a vector: norm, abssum.
+#![tactic(auto)]
+
 ghost use Rattle.std.specs.Prelude.{◌≡◌};
 ghost use Rattle.rules.specs.Vectors as rules;
 

@@ -1,4 +1,6 @@
 // A run's vectors come back from work, as settle laid them out.
+#![tactic(auto)]
+
 ghost use Rattle.std.specs.Prelude.{◌+◌, ◌≤◌, ◌≡◌, length};
 ghost use Rattle.rules.specs.Step.{part};
 ghost use Rattle.settle.specs.Settle.{Fitting};

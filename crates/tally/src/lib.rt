@@ -1,4 +1,6 @@
 // Counts by number, for the programs that replay a list.
+#![tactic(auto)]
+
 ghost use Rattle.std.specs.Prelude.{◌≡◌, length, nat_lt};
 ghost use Rattle.tally.specs.Tallies.{counted, total_to};
 

@@ -1,4 +1,6 @@
 // The products of floatgeneric.rs with a dense matrix in one slice, stored by columns: one row of it after another, or of it transposed.
+#![tactic(auto)]
+
 ghost use Rattle.std.specs.Prelude.{◌≤◌, ◌<◌, ◌≡◌, length};
 ghost use Rattle.rules.specs.Limits.{limit};
 ghost use Rattle.rules.specs.Outcome.{Outcome};

@@ -1,4 +1,6 @@
 // How a run ends: what the criteria of a step say, and what each ending does to the buffers.
+#![tactic(auto)]
+
 ghost use Rattle.std.specs.Prelude.{◌≡◌, ◌&&◌, leb};
 ghost use Rattle.std.specs.Float.Ieee.{le};
 ghost use Rattle.rules.specs.Product.{none};

@@ -1,4 +1,6 @@
 // One whole step: update_vecs, then the criteria.
+#![tactic(auto)]
+
 ghost use Rattle.std.specs.Prelude.{◌≡◌};
 ghost use Rattle.rules.specs.Criteria.{judged};
 ghost use Rattle.rules.specs.Problem.{slices, problem_in, embed_in};
@@ -12,7 +14,7 @@ use step::update_vecs;
 
 // What a whole step answers: its criteria with the rotations that it made, or the block that failed with those up to there, or a
 // plain no.
-#[derive(Drop)]
+#[derive(Clone, Copy)]
 pub enum StepAnswer {
     Judged(Criteria, u64),
     Failed(usize, u64),

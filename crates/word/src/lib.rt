@@ -1,4 +1,6 @@
 // One cone word of a plain list: with the reader of groups the only place that knows how words are made. Everything else is over the blocks.
+#![tactic(auto)]
+
 ghost use Rattle.std.specs.Prelude.{◌≡◌};
 ghost use Rattle.rules.specs.Blocks.{order_of, read_word};
 

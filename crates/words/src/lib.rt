@@ -1,5 +1,7 @@
 // A plain cone list: whether it is good, the cone work that it needs, and whether it fits. A group's word is a bad one, as
 // those of the reserved kinds are.
+#![tactic(auto)]
+
 ghost use Rattle.std.specs.Prelude.{◌≡◌};
 ghost use Rattle.rules.specs.Blocks.{blocks_of, is_bad_cone};
 ghost use Rattle.rules.specs.Product.{cone_work, blocks_within, sums_fit, lengths_fit};

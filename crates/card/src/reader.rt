@@ -4,7 +4,7 @@ ghost use Rattle.card.specs.Card.{bits_of_bytes, read_card};
 ghost use Rattle.card.specs.Fields.{fields_at, rest_at};
 ghost use Rattle.card.specs.Outcome.{answer_of, ReadOutcome};
 
-use crate::Card_read;
+use crate::CardRead;
 use crate::digits::{field, number_count};
 use rules::{Cols, Rows};
 

@@ -6,7 +6,7 @@ ghost use Rattle.rules.specs.Progress.{LoggedOutcome};
 ghost use Rattle.rules.specs.Demands.{with_period};
 ghost use Rattle.card_answer.specs.Answer.{numbers_at, parameters_of, storage_of, problem_from, FieldsOutcome, CardLogOutcome, CardOutcome};
 
-use card::Card_read;
+use card::CardRead;
 use rules::{Cols, Ending, Logged, Rows, SolverParam, Storage};
 
 // The card's fault; or m and n, how its problem ended or why it was turned away, k and q.

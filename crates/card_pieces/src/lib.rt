@@ -6,7 +6,7 @@ ghost use Rattle.rules.specs.Problem.{problem_of};
 ghost use Rattle.card_problem.specs.Problem.{problem_from};
 ghost use Rattle.card_pieces.specs.CardPieces.{first_of, later_of, piece_by, PieceOutcome, CardPieceOutcome};
 
-use card::Card_read;
+use card::CardRead;
 use piece_rules::{PieceAnswer, RunRecord};
 use rules::{Cols, Rows, SolverParam, Storage};
 

@@ -6,7 +6,7 @@
 mod period;
 mod rows;
 
-use card_answer::Told_logged;
+use card_answer::ToldLogged;
 use card_file::ENOUGH;
 use card_input::Input;
 use libc::{STDERR_FILENO, STDOUT_FILENO};

@@ -8,7 +8,7 @@ ghost use Rattle.rules.specs.Outcome.{Outcome};
 ghost use Rattle.rules.specs.Matrices.{is_empty, transform_fits, op_fits, trans_op_fits, opped, trans_opped};
 ghost use Rattle.matop.specs.Operated.{operated};
 
-use rules::Mat_type;
+use rules::MatType;
 
 // y becomes alpha * matrix * x + beta * y.
 pub fn op(t: MatType, alpha: f64, mat: &[f64], x: &[f64], beta: f64, y: &mut [f64]) -> bool

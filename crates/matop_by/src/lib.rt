@@ -7,7 +7,7 @@ ghost use Rattle.std.specs.Prelude.{◌≡◌};
 ghost use Rattle.rules.specs.Outcome.{Outcome};
 ghost use Rattle.rules.specs.Matrices.{op_fits, trans_op_fits, opped_by, trans_opped_by};
 
-use rules::Mat_type;
+use rules::MatType;
 
 // y becomes alpha * matrix * x + beta * y.
 pub fn op_by(

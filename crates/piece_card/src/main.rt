@@ -13,7 +13,7 @@ ghost use Rattle.std.specs.Prelude.{◌+◌, ◌<◌};
 use card_file::ENOUGH;
 use card_input::{Input, Number};
 use libc::STDERR_FILENO;
-use piece_rules::Run_record;
+use piece_rules::RunRecord;
 use state::{CONE_WORK, State, WORDS, WORK};
 
 fn main() {

@@ -4,7 +4,7 @@ ghost use Rattle.std.specs.Prelude.{◌+◌, ◌≤◌, ◌≡◌, length};
 
 use card_input::Input;
 use libc::STDOUT_FILENO;
-use piece_rules::Run_record;
+use piece_rules::RunRecord;
 use run_record::{RECORD_WORDS, ReadRecord};
 
 pub(crate) const WORK: usize = card_answer::WORK;

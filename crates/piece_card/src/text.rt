@@ -1,9 +1,9 @@
 // What became of a piece, as text on standard output.
 use crate::state;
-use card_answer::Told_logged;
-use card_pieces::Told_piece;
+use card_answer::ToldLogged;
+use card_pieces::ToldPiece;
 use libc::STDOUT_FILENO;
-use piece_rules::Piece_answer;
+use piece_rules::PieceAnswer;
 use rules::{Answer, Cols, Ending, Logged, Rows};
 
 pub(crate) fn write_told(told: ToldPiece, work: &[f64], cone_work: &[f64]) {

@@ -7,7 +7,7 @@ ghost use Rattle.pieces.specs.Taking.{Fresh};
 ghost use Rattle.pieces.specs.Starts.{Begins, taken_by, lengths_lent};
 
 use crate::stepping;
-use iterate::Row_counts;
+use iterate::RowCounts;
 use piece_rules::{PieceAnswer, RunLengths, RunRecord};
 use prepare::Prepared;
 use rules::{LIMIT, MOST_WORDS, Shape, SolverParam};

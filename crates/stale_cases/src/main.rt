@@ -8,7 +8,7 @@ mod call;
 use alter::{counts, ended, lengths, state, tolerances, whole_numbers};
 use call::{Call, after_call, as_begun, begun};
 use libc::STDOUT_FILENO;
-use piece_rules::Run_record;
+use piece_rules::RunRecord;
 
 // The bound of the rotations after 3 steps: 64 sweeps a step, of twice the one pair of order 2.
 const BOUND: u64 = 384;

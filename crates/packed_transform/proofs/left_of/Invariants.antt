@@ -1,0 +1,24 @@
+-- `packed_transform::left_of` meets its contract.
+use borrow.Author.Rules.{rules}
+use native.Mathlib.Omega.{arith}
+use Prim.Native.Nat.{◌+◌, ◌-◌, ◌≤◌}
+use mathlib.Core.Path.{◌≡◌, refl}
+use lib.ListN.{length}
+use Rattle.rules.specs.Arithmetic.{◌+ᶠ◌}
+use Rattle.rules.proofs.Arithmetic.{Reached, reached_none, reached_all}
+use Rattle.side_by_side.proofs.SideBySide.{SummedOver, summed_over_none, summed_over_more, summed_over_all}
+use Rattle.packed_transform.specs.Lines.{term}
+use Rattle.packed_transform.proofs.Passes.{stored, left_place, next_sum}
+use Rattle.packed_transform.proofs.left_of.Given as goal
+
+abbrev pub invariant-loop-k : goal.invariant-loop-k
+invariant-loop-k l =
+    Reached (λ i s. s +ᶠ term l.mat l.x (l.r + i) l.c) l.k l.initial.sums l.sums × (l.k-end ≡ length l.initial.sums)
+
+abbrev pub invariant-loop-c : goal.invariant-loop-c
+invariant-loop-c l =
+    SummedOver (λ k. term l.mat l.x (l.r + k)) 0 l.c l.initial.sums l.sums × (l.c ≤ l.r)
+
+abbrev pub decreases-loop-c : goal.decreases-loop-c
+decreases-loop-c l =
+    l.r - l.c

@@ -1,0 +1,29 @@
+-- `sums::norm` meets its contract.
+use Prim.Native.Nat.{◌-◌, ◌≤◌}
+use mathlib.Core.Path.{◌≡◌, refl, sym, ◌∙◌, ap}
+use mathlib.Core.Logic.{⊎_elim}
+use lib.ListN.{length}
+use Rattle.rules.specs.Arithmetic.{◌*ᶠ◌, +0, at}
+use lib.Ieee.{binary64, of_bits, div}
+use Rattle.rules.specs.Root.{root}
+use Rattle.rules.specs.Vectors.{norm}
+use Rattle.rules.proofs.Arithmetic.{Summed, summed_none, summed_more, summed_all}
+use Rattle.rules.proofs.LargeNorms.{norm_of_other_sum, norm_of_not_finite, norm_of_large}
+use borrow.Author.Rules.{rules}
+use Rattle.sums.proofs.norm.Goals as goal
+
+pub loop-i-init : goal.loop-i-init
+loop-i-init c = (summed_none +0 _, search rules, refl)
+
+pub loop-i-preserved : goal.loop-i-preserved
+loop-i-preserved c = (summed_more c.loop-i.invariant.0, search rules, search rules)
+
+pub returns-then-all_finite : goal.returns-then-all_finite
+unfolding div of_bits
+returns-then-all_finite c = let sum_is_lem = summed_all {m = length c.args.x.now} c.loop-i.invariant.0 (search rules) in
+    c.scaled_norm.ensures ∙ sym (norm_of_large 1 c.args.x.now (rw sum_is_lem at c.if-sum.true) (sym c.all_finite.ensures ∙ c.if-all_finite.true))
+
+pub returns : goal.returns
+unfolding div of_bits
+returns c = let sum_is_lem = summed_all {m = length c.args.x.now} c.loop-i.invariant.0 (search rules) in
+    c.root.ensures ∙ ap (root binary64) sum_is_lem ∙ sym (⊎_elim (λ w. norm_of_not_finite 1 c.args.x.now (sym w.1.ensures ∙ w.2.left)) (λ w. norm_of_other_sum 1 c.args.x.now (rw sum_is_lem at w.left)) c.if-sum.branch)

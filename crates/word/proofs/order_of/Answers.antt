@@ -32,10 +32,14 @@ pub loop-order-init : goal.loop-order-init
 loop-order-init c = (search rules, search rules)
 
 pub returns-then-size-triangle : goal.returns-then-size-triangle
-returns-then-size-triangle c = found _ _ c.loop-order.invariant.0 c.loop-order.invariant.1 (omega (arith, (let next : c.triangle.result ≡ triangle (c.loop-order.order + 1) = c.triangle.ensures ∙ counted_is _ (omega (arith, c.loop-order.invariant.0)) in next), c.if-size-triangle.true))
+returns-then-size-triangle c =
+    let next : c.triangle.result ≡ triangle (c.loop-order.order + 1) = c.triangle.ensures ∙ counted_is _ (omega (arith, c.loop-order.invariant.0)) in
+    found _ _ c.loop-order.invariant.0 c.loop-order.invariant.1 (omega (arith, next, c.if-size-triangle.true))
 
 pub loop-order-preserved : goal.loop-order-preserved
-loop-order-preserved c = (search rules, omega (arith, (let next : c.triangle.result ≡ triangle (c.loop-order.order + 1) = c.triangle.ensures ∙ counted_is _ (omega (arith, c.loop-order.invariant.0)) in next), c.if-size-triangle.false))
+loop-order-preserved c =
+    let next : c.triangle.result ≡ triangle (c.loop-order.order + 1) = c.triangle.ensures ∙ counted_is _ (omega (arith, c.loop-order.invariant.0)) in
+    (search rules, omega (arith, next, c.if-size-triangle.false))
 
 pub returns : goal.returns
 unfolding order_of

@@ -28,12 +28,18 @@ returns-in-3 c = rw c.in-3.is
 
 pub returns-then-triangle-size : goal.returns-then-triangle-size
 unfolding read_word read_kind
-returns-then-triangle-size c = rw (c.in-4.is, ← c.order_of-order.ensures, eq-eqb _ _ (sym ((let is : c.triangle.result ≡ triangle c.order_of-order.result = c.triangle.ensures ∙ counted_is _ (omega (arith, (let order_small : c.order_of-order.result ≤ 127 = rw c.order_of-order.ensures (order_most _) in order_small))) in is)) ∙ c.if-triangle-size.true))
+returns-then-triangle-size c =
+    let order_small : c.order_of-order.result ≤ 127 = rw c.order_of-order.ensures (order_most (c.args.word % 8192)) in
+    let is : c.triangle.result ≡ triangle c.order_of-order.result = c.triangle.ensures ∙ counted_is _ (omega (arith, order_small)) in
+    rw (c.in-4.is, ← c.order_of-order.ensures, eq-eqb _ _ (sym is ∙ c.if-triangle-size.true))
 
 pub returns-else-triangle-size : goal.returns-else-triangle-size
 unfolding read_word read_kind
-returns-else-triangle-size c = rw (c.in-4.is, ← c.order_of-order.ensures, ne_eqb _ _ (λ e. c.if-triangle-size.false ((let is : c.triangle.result ≡ triangle c.order_of-order.result = c.triangle.ensures ∙ counted_is _ (omega (arith, (let order_small : c.order_of-order.result ≤ 127 = rw c.order_of-order.ensures (order_most _) in order_small))) in is) ∙ e)))
+returns-else-triangle-size c =
+    let order_small : c.order_of-order.result ≤ 127 = rw c.order_of-order.ensures (order_most (c.args.word % 8192)) in
+    let is : c.triangle.result ≡ triangle c.order_of-order.result = c.triangle.ensures ∙ counted_is _ (omega (arith, order_small)) in
+    rw (c.in-4.is, ← c.order_of-order.ensures, ne_eqb _ _ (λ e. c.if-triangle-size.false (is ∙ e)))
 
 pub returns-in_default : goal.returns-in_default
 unfolding read_word
-returns-in_default c = sym (reserved (c.args.word / 8192) (c.args.word % 8192) (omega (arith, c.in_default.rest.1, c.in_default.rest.0.1, c.in_default.rest.0.0.1, c.in_default.rest.0.0.0.1, c.in_default.rest.0.0.0.0.1)))
+returns-in_default c = sym (reserved (c.args.word / 8192) (c.args.word % 8192) (omega (arith, c.in_default.in_default-own.rest.1, c.in_default.in_default-own.rest.0.1, c.in_default.in_default-own.rest.0.0.1, c.in_default.in_default-own.rest.0.0.0.1, c.in_default.in_default-own.rest.0.0.0.0.1)))

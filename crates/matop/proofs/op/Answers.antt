@@ -1,0 +1,9 @@
+-- `matop::op` meets its contract.
+use borrow.Author.Rules.{rules}
+use Rattle.rules.specs.Matrices.{opped_by}
+use Rattle.matop.specs.Operated.{operated}
+use Rattle.matop.proofs.op.Goals as goal
+
+pub returns : goal.returns
+unfolding opped_by operated
+returns c = c.operate.ensures

@@ -1,0 +1,9 @@
+-- `matop::split::trans_op` meets its contract.
+use borrow.Author.Rules.{rules}
+use Rattle.rules.specs.Matrices.{trans_opped_by}
+use Rattle.matop.specs.Operated.{operated}
+use Rattle.matop.proofs.split.trans_op.Goals as goal
+
+pub returns : goal.returns
+unfolding trans_opped_by operated
+returns c = c.operate.ensures

@@ -117,9 +117,9 @@ pub span_none : {n k i j : ℕ} {c s : Float} {x : List Float} → IsPacked n x 
 span_none sized = record { packed = sized; rows = λ x r. r }
 
 -- the places of a row's two entries are inside
-pub span_inside : {n k₀ k i j : ℕ} {c s : Float} {x₀ x' : List Float} {p q : ℕ} → SpanTo n k₀ k i j c s x₀ x' → IsPair n i j → k < n → p ≡ packed_place k i → q ≡ packed_place k j → record {p_in_bounds : p < length x'; q_in_bounds : q < length x'}
+pub span_inside : {n k₀ k i j : ℕ} {c s : Float} {x₀ x' : List Float} {p q : ℕ} → SpanTo n k₀ k i j c s x₀ x' → IsPair n i j → k < n → p ≡ packed_place k i → q ≡ packed_place k j → record { p_in_bounds : p < length x'; q_in_bounds : q < length x' }
 span_inside {n} {k = k} {i} {j} {x' = x'} g pair h e e' =
-    record {p_in_bounds = rw e (cells_inside n k i x' g.packed h (omega arith)); q_in_bounds = rw e' (cells_inside n k j x' g.packed h pair.inside)}
+    record { p_in_bounds = rw e (cells_inside n k i x' g.packed h (omega arith)); q_in_bounds = rw e' (cells_inside n k j x' g.packed h pair.inside) }
 
 pub span_more : {n k₀ k i j : ℕ} {c s : Float} {x₀ x' x'' : List Float} {p q : ℕ} → SpanTo n k₀ k i j c s x₀ x' → IsPair n i j → k < n → p ≡ packed_place k i → q ≡ packed_place k j → x'' ≡ two_rotated p q c s x' → SpanTo n k₀ (k + 1) i j c s x₀ x''
 span_more g pair h e e' is =

@@ -21,8 +21,8 @@ use Rattle.packed_transform.specs.Lines.{term, row_on}
 
 -- what each part asks, of as many rows as there are sums
 pub part_asked : {n : Rows} {mat : List Float} {size w : ℕ} {array sums : List Float} (x : List Float) (r : ℕ) → Stored (SymPack n) mat → length x ≡ n.0 → r + w ≤ n.0 → Lanes size w array sums
-    → record {mat_len : length mat ≡ triangle (length x); x_len_bound : length x ≤ limit; sums_in_bounds : r + length (take (w - 0) (drop 0 array)) ≤ length x}
-part_asked {n} {mat} {size} {w} x r s wide rows l = record {mat_len = rw wide s.all; x_len_bound = rw wide s.cols; sums_in_bounds = rw (lanes_count l, wide) rows}
+    → record { mat_len : length mat ≡ triangle (length x); x_len_bound : length x ≤ limit; sums_in_bounds : r + length (take (w - 0) (drop 0 array)) ≤ length x }
+part_asked {n} {mat} {size} {w} x r s wide rows l = record { mat_len = rw wide s.all; x_len_bound = rw wide s.cols; sums_in_bounds = rw (lanes_count l, wide) rows }
 
 module _ (mat x : List Float) (r : ℕ) where
   parts_join : (sum_so_far : Float) (a b : ℕ) → a ≤ b → row_on (row_on sum_so_far mat x r 0 a) mat x r a b ≡ row_on sum_so_far mat x r 0 b

@@ -46,8 +46,9 @@ rank1op-requires c = let whole = lent_length c.args.n c.args.work.now c.loop-k.k
 pub loop-k-preserved : goal.loop-k-preserved
 unfolding lent
 loop-k-preserved c = elim c.if-e.branch [
-    then-e w ↦ (rebuilt_on c.args.n c.args.work.now c.loop-k.k c.loop-k.invariant.1 c.loop-k-test.true c.loop-k.invariant.0 w.if-e.true c.if-e.x (w.x-is ∙ w.rank1op.ensures) (ap length w.x-is ∙ w.rank1op.auto.x), c.loop-k.invariant.1)
-    | else-e w ↦ (rw w.x-is (rebuilt_off c.loop-k.invariant.0 c.loop-k-test.true w.if-e.false), c.loop-k.invariant.1) ]
+  | then-e w ↦ (rebuilt_on c.args.n c.args.work.now c.loop-k.k c.loop-k.invariant.1 c.loop-k-test.true c.loop-k.invariant.0 w.if-e.true c.if-e.x (w.x-is ∙ w.rank1op.ensures) (ap length w.x-is ∙ w.rank1op.auto.x), c.loop-k.invariant.1)
+  | else-e w ↦ (rw w.x-is (rebuilt_off c.loop-k.invariant.0 c.loop-k-test.true w.if-e.false), c.loop-k.invariant.1)
+]
 
 pub returns : goal.returns
 returns c = rebuilt_all c.loop-k.invariant.0 (search rules)

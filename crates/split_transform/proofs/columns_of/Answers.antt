@@ -17,10 +17,10 @@ use Rattle.split_transform.proofs.columns_of.Goals as goal
 
 -- what the next columns ask, as many as their part of y has places
 part_asked : (m long wide c w : ℕ) (y₀ y : List Float) → long ≡ m * length y₀ → wide ≡ m → length y₀ ≤ limit → length y ≡ length y₀ → c + w ≤ length y₀ → w ≤ 8
-    → (let part = take (c + w - c) (drop c y) in record {rows_in_bounds : (c + length part) * m ≤ long; x_len : wide ≡ m; y_bound : c + length part ≤ limit; y_len_bound : length part ≤ 8})
+    → (let part = take (c + w - c) (drop c y) in record { rows_in_bounds : (c + length part) * m ≤ long; x_len : wide ≡ m; y_bound : c + length part ≤ limit; y_len_bound : length part ≤ 8 })
 part_asked m long wide c w y₀ y all as_wide within same inside few =
     let stored : (c + w) * m ≤ long = rw (all, mul_comm m (length y₀)) (mul-le-mul_right m inside) in
-    rw (part-places c w y (omega arith)) record {rows_in_bounds = stored; x_len = as_wide; y_bound = omega arith; y_len_bound = few}
+    rw (part-places c w y (omega arith)) record { rows_in_bounds = stored; x_len = as_wide; y_bound = omega arith; y_len_bound = few }
 
 pub loop-c-init : goal.loop-c-init
 loop-c-init c = (reached_none _ _, refl)

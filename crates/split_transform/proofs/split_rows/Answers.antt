@@ -24,28 +24,28 @@ loop-r-init c = (reached_none _ _, sym c.requires.y_len)
 
 pub rows_at-requires : goal.rows_at-requires
 rows_at-requires c = let p = part_asked _ c.loop-r.r 32 c.args.y.now _ c.requires.y_len c.loop-r.invariant.0.same (omega (arith, c.if-r-m.true, c.loop-r.invariant.1)) (omega arith) in
-    record {split_stored = c.requires.split_stored; x_len = c.requires.x_len; y_bound = p.0; y_len_bound = p.1}
+    record { split_stored = c.requires.split_stored; x_len = c.requires.x_len; y_bound = p.0; y_len_bound = p.1 }
 
 pub loop-r-preserved-then-r-m : goal.loop-r-preserved-then-r-m
 loop-r-preserved-then-r-m c = (reached_part c.loop-r.invariant.0 32 _ (omega (arith, c.if-r-m.true, c.loop-r.invariant.1)) c.rows_at.ensures, search rules)
 
 pub rows_at-requires-then-r-m-2 : goal.rows_at-requires-then-r-m-2
 rows_at-requires-then-r-m-2 c = let p = part_asked _ c.loop-r.r 8 c.args.y.now _ c.requires.y_len c.loop-r.invariant.0.same (omega (arith, c.if-r-m-2.true, c.loop-r.invariant.1)) (omega arith) in
-    record {split_stored = c.requires.split_stored; x_len = c.requires.x_len; y_bound = p.0; y_len_bound = p.1}
+    record { split_stored = c.requires.split_stored; x_len = c.requires.x_len; y_bound = p.0; y_len_bound = p.1 }
 
 pub loop-r-preserved-then-r-m-2 : goal.loop-r-preserved-then-r-m-2
 loop-r-preserved-then-r-m-2 c = (reached_part c.loop-r.invariant.0 8 _ (omega (arith, c.if-r-m-2.true, c.loop-r.invariant.1)) c.rows_at-then-r-m-2.ensures, search rules)
 
 pub rows_at-requires-then-r-m-3 : goal.rows_at-requires-then-r-m-3
 rows_at-requires-then-r-m-3 c = let p = part_asked _ c.loop-r.r 4 c.args.y.now _ c.requires.y_len c.loop-r.invariant.0.same (omega (arith, c.if-r-m-3.true, c.loop-r.invariant.1)) (omega arith) in
-    record {split_stored = c.requires.split_stored; x_len = c.requires.x_len; y_bound = p.0; y_len_bound = p.1}
+    record { split_stored = c.requires.split_stored; x_len = c.requires.x_len; y_bound = p.0; y_len_bound = p.1 }
 
 pub loop-r-preserved-then-r-m-3 : goal.loop-r-preserved-then-r-m-3
 loop-r-preserved-then-r-m-3 c = (reached_part c.loop-r.invariant.0 4 _ (omega (arith, c.if-r-m-3.true, c.loop-r.invariant.1)) c.rows_at-then-r-m-3.ensures, search rules)
 
 pub rows_at-requires-in-loop-r : goal.rows_at-requires-in-loop-r
 rows_at-requires-in-loop-r c = let p = part_asked _ c.loop-r.r 1 c.args.y.now _ c.requires.y_len c.loop-r.invariant.0.same (omega (arith, c.loop-r-test.true, c.loop-r.invariant.1)) (omega arith) in
-    record {split_stored = c.requires.split_stored; x_len = c.requires.x_len; y_bound = p.0; y_len_bound = p.1}
+    record { split_stored = c.requires.split_stored; x_len = c.requires.x_len; y_bound = p.0; y_len_bound = p.1 }
 
 pub loop-r-preserved : goal.loop-r-preserved
 loop-r-preserved c = (reached_part c.loop-r.invariant.0 1 _ (omega (arith, c.loop-r-test.true, c.loop-r.invariant.1)) c.rows_at-in-loop-r.ensures, search rules)

@@ -24,8 +24,9 @@ returns-then-not-is_within c = let s : leb (places c.in-Block.block) limit ≡ f
 pub loop-i-preserved : goal.loop-i-preserved
 loop-i-preserved c = (
   elim c.match-read_word.branch [
-    in-Block+else-not-is_within w ↦ sym (rw (sym w.is_within.ensures ∙ not-false _ w.if-not-is_within.false-raw) at (within_block c.args.words.now c.loop-i.i (search rules) _ (sym c.read_word.ensures ∙ w.in-Block.is))) ∙ c.loop-i.invariant.0
-    | in_default w ↦ sym (ap blocks_within (blocks_bad c.args.words.now c.loop-i.i (search rules) (sym c.read_word.ensures ∙ w.in_default.is))) ∙ c.loop-i.invariant.0 ],
+    | in-Block+else-not-is_within w ↦ sym (rw (sym w.is_within.ensures ∙ not-false _ w.if-not-is_within.false-raw) at (within_block c.args.words.now c.loop-i.i (search rules) _ (sym c.read_word.ensures ∙ w.in-Block.is))) ∙ c.loop-i.invariant.0
+    | in_default w ↦ sym (ap blocks_within (blocks_bad c.args.words.now c.loop-i.i (search rules) (sym c.read_word.ensures ∙ w.in_default.is))) ∙ c.loop-i.invariant.0
+  ],
   search rules,
   search rules,
 )

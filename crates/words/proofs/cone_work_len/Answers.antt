@@ -18,9 +18,10 @@ use Rattle.words.proofs.cone_work_len.Goals.{in-Block+then-most-len, in-Block+el
 pub loop-i-preserved : goal.loop-i-preserved
 loop-i-preserved c = (
   elim c.match-read_word.branch [
-    in-Block+then-most-len w ↦ let e = sym c.read_word.ensures ∙ w.in-Block.is in omega (arith, w.most-is, w.if-most-len, w.block_work-len.ensures ∙ sayable_work_lem _ (word_most _ _ e), work_block c.args.words.now c.loop-i.i (search rules) _ e)
+    | in-Block+then-most-len w ↦ let e = sym c.read_word.ensures ∙ w.in-Block.is in omega (arith, w.most-is, w.if-most-len, w.block_work-len.ensures ∙ sayable_work_lem _ (word_most _ _ e), work_block c.args.words.now c.loop-i.i (search rules) _ e)
     | in-Block+else-most-len w ↦ let e = sym c.read_word.ensures ∙ w.in-Block.is in omega (arith, w.most-is, w.if-most-len, w.block_work-len.ensures ∙ sayable_work_lem _ (word_most _ _ e), work_block c.args.words.now c.loop-i.i (search rules) _ e)
-    | in_default w ↦ omega (arith, w.most-is, ap cone_work (blocks_bad c.args.words.now c.loop-i.i (search rules) (sym c.read_word.ensures ∙ w.in_default.is))) ],
+    | in_default w ↦ omega (arith, w.most-is, ap cone_work (blocks_bad c.args.words.now c.loop-i.i (search rules) (sym c.read_word.ensures ∙ w.in_default.is)))
+  ],
   search rules,
   search rules,
 )

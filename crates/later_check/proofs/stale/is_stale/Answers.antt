@@ -18,5 +18,5 @@ is_stale_by-requires c = let few = count_few c.args.words.now _ _ _ c.flatten-fl
     omega (arith, few, long)
 
 pub returns : goal.returns
-returns c = let plain = front_is_plain c.args.words.now _ long _ _ c.flatten-flattened.ensures _ c.count_of-count.ensures in
+returns c long = let plain = front_is_plain c.args.words.now _ long _ _ c.flatten-flattened.ensures _ c.count_of-count.ensures in
     rw plain at c.is_stale_by.ensures

@@ -1,0 +1,9 @@
+-- `norms::squares_by_halves` meets its contract.
+use native.Mathlib.Omega.{arith}
+use mathlib.Core.Path.{refl}
+use Rattle.halves.proofs.Ranges.{two_halves}
+use Rattle.norms.specs.Squares.{square_of}
+use Rattle.norms.proofs.+squares_by_halves.Goals as goal
+
+pub returns : goal.returns
+returns t c = two_halves (λ v. square_of c.args.smaller v) c.args.x.now refl refl (omega (arith, c.if-n-le32.false)) c.squares_by_halves-first.ensures c.squares_by_halves-rest.ensures

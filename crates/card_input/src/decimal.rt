@@ -1,16 +1,21 @@
 // A number, as an argument says it in decimal digits.
 ghost use Rattle.std.specs.Prelude.{◌<◌};
 
+use crate::words::WORD_ROOM;
+use std::rt::Env;
+
 #[derive(Clone, Copy)]
 pub enum Number {
     Is(u32),
     None,
 }
 
-pub fn number_argument(i: usize) -> Number {
-    let mut word = io::buffer();
-    let length = os::arg(i, &mut word);
-    number_of(&word[..length])
+pub fn number_argument<R: Env>(rt: &R, i: usize) -> Number {
+    let mut word = [0u8; WORD_ROOM];
+    match rt.arg(i, &mut word) {
+        Ok(length) => number_of(&word[..length]),
+        Err(_) => Number::None,
+    }
 }
 
 // The number that the digits say; none where there are no digits, other bytes, or more than 32 bits.

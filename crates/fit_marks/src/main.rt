@@ -8,7 +8,6 @@
 // That is A x + s = b with x = (offset, drift, e), two rows to a mark, and s in a nonnegative block.
 #![tactic(auto)]
 
-use libc::STDOUT_FILENO;
 use rules::{Cols, Ending, Rows, SolverParam, Storage};
 
 const N: usize = 3;
@@ -19,20 +18,20 @@ const M: usize = 8;
 // What is counted in thousandths is below this.
 const MOST: usize = 10000;
 
-fn write_ending(ending: Ending) {
+fn write_ending<P: Print>(out: &P, ending: Ending) {
     match ending {
-        Ending::Converged(_, _, _) => io::write_all(STDOUT_FILENO, b"Converged"),
-        Ending::ExcessIter(_, _, _) => io::write_all(STDOUT_FILENO, b"ExcessIter"),
-        Ending::ExcessIterUnscaled(_, _) => io::write_all(STDOUT_FILENO, b"ExcessIter, unscaled"),
-        Ending::Unbounded(_) => io::write_all(STDOUT_FILENO, b"Unbounded"),
-        Ending::Infeasible(_) => io::write_all(STDOUT_FILENO, b"Infeasible"),
-        Ending::ConeFailure(_) => io::write_all(STDOUT_FILENO, b"ConeFailure"),
-        Ending::BadParam => io::write_all(STDOUT_FILENO, b"Refused 1"),
-        Ending::TooLarge => io::write_all(STDOUT_FILENO, b"Refused 2"),
-        Ending::InvalidOp => io::write_all(STDOUT_FILENO, b"Refused 3"),
-        Ending::BadCone => io::write_all(STDOUT_FILENO, b"Refused 4"),
-        Ending::NotFinite => io::write_all(STDOUT_FILENO, b"Refused 5"),
-        Ending::WorkShortage => io::write_all(STDOUT_FILENO, b"Refused 6"),
+        Ending::Converged(_, _, _) => lines::write(out, b"Converged"),
+        Ending::ExcessIter(_, _, _) => lines::write(out, b"ExcessIter"),
+        Ending::ExcessIterUnscaled(_, _) => lines::write(out, b"ExcessIter, unscaled"),
+        Ending::Unbounded(_) => lines::write(out, b"Unbounded"),
+        Ending::Infeasible(_) => lines::write(out, b"Infeasible"),
+        Ending::ConeFailure(_) => lines::write(out, b"ConeFailure"),
+        Ending::BadParam => lines::write(out, b"Refused 1"),
+        Ending::TooLarge => lines::write(out, b"Refused 2"),
+        Ending::InvalidOp => lines::write(out, b"Refused 3"),
+        Ending::BadCone => lines::write(out, b"Refused 4"),
+        Ending::NotFinite => lines::write(out, b"Refused 5"),
+        Ending::WorkShortage => lines::write(out, b"Refused 6"),
     };
 }
 
@@ -50,19 +49,19 @@ fn thousandths(x: f64) -> u64 {
     whole
 }
 
-fn write_solution(x: &[f64]) {
+fn write_solution<P: Print>(out: &P, x: &[f64]) {
     if x.len() == N {
-        io::write_all(STDOUT_FILENO, b"offset ");
-        io::print_decimal(STDOUT_FILENO, thousandths(x[0]));
-        io::write_all(STDOUT_FILENO, b" ms, drift ");
-        io::print_decimal(STDOUT_FILENO, thousandths(x[1]));
-        io::write_all(STDOUT_FILENO, b" ms a day, largest miss ");
-        io::print_decimal(STDOUT_FILENO, thousandths(x[2]));
-        io::write_all(STDOUT_FILENO, b" ms\n");
+        lines::write(out, b"offset ");
+        lines::write_decimal(out, thousandths(x[0]));
+        lines::write(out, b" ms, drift ");
+        lines::write_decimal(out, thousandths(x[1]));
+        lines::write(out, b" ms a day, largest miss ");
+        lines::write_decimal(out, thousandths(x[2]));
+        lines::write(out, b" ms\n");
     }
 }
 
-fn main() {
+fn main(rt: HostRuntime) {
     let c = [0.0, 0.0, 1.0];
     // the columns of offset, drift and e; after 0, 14, 31 and 49 days
     let a = [
@@ -89,9 +88,9 @@ fn main() {
         &mut cone_work,
     );
     let ending = answer.ending;
-    write_ending(ending);
-    io::write_all(STDOUT_FILENO, b" after ");
-    io::print_decimal(STDOUT_FILENO, answer.steps);
-    io::write_all(STDOUT_FILENO, b" steps\n");
-    write_solution(solution::solution_x(&work, Cols(N)));
+    write_ending(&rt, ending);
+    lines::write(&rt, b" after ");
+    lines::write_decimal(&rt, answer.steps);
+    lines::write(&rt, b" steps\n");
+    write_solution(&rt, solution::solution_x(&work, Cols(N)));
 }

@@ -1,7 +1,6 @@
 // Problems at the limits, which run, and beyond them, which are turned away. replay_runs compares such runs with the original.
 #![tactic(auto)]
 
-use libc::STDOUT_FILENO;
 use lines::write_case;
 use rules::{Answer, Cols, LIMIT, MOST_WORDS, Rows, SolverParam, Storage};
 
@@ -213,73 +212,85 @@ fn semidefinite(numbers: &[f64], places: usize, cone_work: usize) -> Told {
     )
 }
 
-fn write_sizes(numbers: &[f64]) {
-    io::write_all(STDOUT_FILENO, b"1,024 rows and 3 columns, accepted");
-    write_case(has_run(sized(numbers, Storage::Dense, LIMIT, 3, 3 * LIMIT, WORK)));
-    io::write_all(STDOUT_FILENO, b"3 rows and 1,024 columns, accepted");
-    write_case(has_run(sized(numbers, Storage::Dense, 3, LIMIT, 3 * LIMIT, WORK)));
-    io::write_all(STDOUT_FILENO, b"packed of order 1,024, accepted");
-    write_case(has_run(sized(numbers, Storage::Packed, LIMIT, LIMIT, PACKED, WORK)));
-    io::write_all(STDOUT_FILENO, b"dense, 1,024 rows and columns, accepted");
-    write_case(has_run(answer_of_halves(numbers, WORK)));
-    io::write_all(STDOUT_FILENO, b"1,025 rows, refused by 2");
-    write_case(is_refused(
-        sized(numbers, Storage::Dense, LIMIT + 1, 3, 3 * (LIMIT + 1), WORK),
-        2,
-    ));
-    io::write_all(STDOUT_FILENO, b"1,025 columns, refused by 2");
-    write_case(is_refused(
-        sized(numbers, Storage::Dense, 3, LIMIT + 1, 3 * (LIMIT + 1), WORK),
-        2,
-    ));
+fn write_sizes<P: Print>(out: &P, numbers: &[f64]) {
+    lines::write(out, b"1,024 rows and 3 columns, accepted");
+    write_case(
+        out,
+        has_run(sized(numbers, Storage::Dense, LIMIT, 3, 3 * LIMIT, WORK)),
+    );
+    lines::write(out, b"3 rows and 1,024 columns, accepted");
+    write_case(
+        out,
+        has_run(sized(numbers, Storage::Dense, 3, LIMIT, 3 * LIMIT, WORK)),
+    );
+    lines::write(out, b"packed of order 1,024, accepted");
+    write_case(
+        out,
+        has_run(sized(numbers, Storage::Packed, LIMIT, LIMIT, PACKED, WORK)),
+    );
+    lines::write(out, b"dense, 1,024 rows and columns, accepted");
+    write_case(out, has_run(answer_of_halves(numbers, WORK)));
+    lines::write(out, b"1,025 rows, refused by 2");
+    write_case(
+        out,
+        is_refused(
+            sized(numbers, Storage::Dense, LIMIT + 1, 3, 3 * (LIMIT + 1), WORK),
+            2,
+        ),
+    );
+    lines::write(out, b"1,025 columns, refused by 2");
+    write_case(
+        out,
+        is_refused(
+            sized(numbers, Storage::Dense, 3, LIMIT + 1, 3 * (LIMIT + 1), WORK),
+            2,
+        ),
+    );
 }
 
-fn write_work(numbers: &[f64]) {
-    io::write_all(
-        STDOUT_FILENO,
-        b"packed, a place of work missing, refused by 6",
+fn write_work<P: Print>(out: &P, numbers: &[f64]) {
+    lines::write(out, b"packed, a place of work missing, refused by 6");
+    write_case(
+        out,
+        is_refused(
+            sized(numbers, Storage::Packed, LIMIT, LIMIT, PACKED, WORK - 1),
+            6,
+        ),
     );
-    write_case(is_refused(
-        sized(numbers, Storage::Packed, LIMIT, LIMIT, PACKED, WORK - 1),
-        6,
-    ));
-    io::write_all(
-        STDOUT_FILENO,
-        b"dense, a place of work missing, refused by 6",
-    );
-    write_case(is_refused(answer_of_halves(numbers, WORK - 1), 6));
+    lines::write(out, b"dense, a place of work missing, refused by 6");
+    write_case(out, is_refused(answer_of_halves(numbers, WORK - 1), 6));
 }
 
-fn write_words(numbers: &[f64]) {
+fn write_words<P: Print>(out: &P, numbers: &[f64]) {
     let most = [NONNEGATIVE + 1; MOST_WORDS];
     let longer = [NONNEGATIVE + 1; MOST_WORDS + 1];
-    io::write_all(STDOUT_FILENO, b"128 words, accepted");
-    write_case(has_run(listed(numbers, &most)));
-    io::write_all(STDOUT_FILENO, b"129 words, refused by 2");
-    write_case(is_refused(listed(numbers, &longer), 2));
+    lines::write(out, b"128 words, accepted");
+    write_case(out, has_run(listed(numbers, &most)));
+    lines::write(out, b"129 words, refused by 2");
+    write_case(out, is_refused(listed(numbers, &longer), 2));
 }
 
-fn write_orders(numbers: &[f64]) {
-    io::write_all(STDOUT_FILENO, b"a block of order 44, accepted");
-    write_case(has_run(semidefinite(numbers, PLACES, CONE_WORK)));
-    io::write_all(
-        STDOUT_FILENO,
-        b"order 44, a place of cone work missing, refused by 6",
+fn write_orders<P: Print>(out: &P, numbers: &[f64]) {
+    lines::write(out, b"a block of order 44, accepted");
+    write_case(out, has_run(semidefinite(numbers, PLACES, CONE_WORK)));
+    lines::write(out, b"order 44, a place of cone work missing, refused by 6");
+    write_case(
+        out,
+        is_refused(semidefinite(numbers, PLACES, CONE_WORK - 1), 6),
     );
-    write_case(is_refused(semidefinite(numbers, PLACES, CONE_WORK - 1), 6));
-    io::write_all(
-        STDOUT_FILENO,
+    lines::write(
+        out,
         b"a block of order 45, which has 1,035 places, refused by 2",
     );
-    write_case(is_refused(semidefinite(numbers, LONG, CONE_WORK), 2));
+    write_case(out, is_refused(semidefinite(numbers, LONG, CONE_WORK), 2));
 }
 
-fn main() {
+fn main(rt: HostRuntime) {
     let mut numbers = zeros();
     numbers[0] = 1.0;
     numbers[LIMIT] = -0.5;
-    write_sizes(&numbers);
-    write_work(&numbers);
-    write_words(&numbers);
-    write_orders(&numbers);
+    write_sizes(&rt, &numbers);
+    write_work(&rt, &numbers);
+    write_words(&rt, &numbers);
+    write_orders(&rt, &numbers);
 }

@@ -9,55 +9,57 @@ mod rows;
 use card_answer::ToldLogged;
 use card_file::ENOUGH;
 use card_input::Input;
-use libc::{STDERR_FILENO, STDOUT_FILENO};
 use period::Period;
 use rows::PLACES;
+use std::io;
+use std::rt::Runtime;
 
-fn main() {
-    match period::period_of_argument(1) {
+fn main(rt: HostRuntime) {
+    match period::period_of_argument(&rt, 1) {
         Period::None => {
-            io::write_all(
-                STDERR_FILENO,
-                b"log_card: the period of the rows is a whole number from 0 to 4294967295\n",
+            let _ = eprintln!(rt;
+                "log_card: the period of the rows is a whole number from 0 to 4294967295"
             );
         }
-        Period::Every(period) => log_all(period),
+        Period::Every(period) => log_all(&rt, period),
     }
 }
 
-fn log_all(period: u32) {
-    log_argument(2, period);
-    for i in 3..os::arg_count() {
-        log_argument(i, period);
+fn log_all<R: Runtime>(rt: &R, period: u32) {
+    log_argument(rt, 2, period);
+    for i in 3..card_input::argument_count(rt) {
+        log_argument(rt, i, period);
     }
 }
 
-fn log_argument(i: usize, period: u32) {
+fn log_argument<R: Runtime>(rt: &R, i: usize, period: u32) {
     let mut bytes = [0u8; ENOUGH];
-    if let Input::Read(length) = card_input::read_argument(i, &mut bytes) {
-        log(&bytes[..length], period);
+    if let Input::Read(length) = card_input::read_argument(rt, i, &mut bytes) {
+        log(rt, &bytes[..length], period);
     }
 }
 
 // Writes the answer to a card and the record of its run.
-fn log(bytes: &[u8], period: u32) {
+fn log<R: Print + Eprint>(rt: &R, bytes: &[u8], period: u32) {
     let mut work = [0.0; card_answer::WORK];
     let mut record = rows::empty();
     let told = card_answer::logged_answer(bytes, period, &mut work, &mut record);
-    if !write_told(told, period, &record) {
-        os::fail(b"standard output");
+    if let Err(e) = write_told(rt, told, period, &record) {
+        card_input::fail(rt, "standard output", e);
     }
 }
 
-// Answers whether all could be written.
-fn write_told(told: ToldLogged, period: u32, record: &[f64; PLACES]) -> bool {
+fn write_told<P: Print>(
+    out: &P,
+    told: ToldLogged,
+    period: u32,
+    record: &[f64; PLACES],
+) -> io::Result<()> {
     let mut text = [0u8; card_text::TEXT_ROOM];
     let end = card_text::first_line(told, &mut text);
-    if !io::write_all(STDOUT_FILENO, &text[..end]) {
-        return false;
-    }
+    out.write_all(&text[..end])?;
     match told {
-        ToldLogged::Fault(_) => true,
-        ToldLogged::Answered(_, _, logged) => rows::write_record(logged, period, record),
+        ToldLogged::Fault(_) => Ok(()),
+        ToldLogged::Answered(_, _, logged) => rows::write_record(out, logged, period, record),
     }
 }

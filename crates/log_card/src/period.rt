@@ -1,16 +1,23 @@
 // The period, as an argument says it in decimal digits.
 ghost use Rattle.std.specs.Prelude.{◌<◌};
 
+use std::rt::Env;
+
+// The longest argument that is read, far above any number's digits.
+const WORD_ROOM: usize = 4096;
+
 #[derive(Clone, Copy)]
 pub(crate) enum Period {
     Every(u32),
     None,
 }
 
-pub(crate) fn period_of_argument(i: usize) -> Period {
-    let mut word = io::buffer();
-    let length = os::arg(i, &mut word);
-    period_of(&word[..length])
+pub(crate) fn period_of_argument<R: Env>(rt: &R, i: usize) -> Period {
+    let mut word = [0u8; WORD_ROOM];
+    match rt.arg(i, &mut word) {
+        Ok(length) => period_of(&word[..length]),
+        Err(_) => Period::None,
+    }
 }
 
 // The number that the digits say; none where there are no digits, other bytes, or more than 32 bits.

@@ -19,7 +19,6 @@
 // cancel, and the editions differ less.
 #![tactic(auto)]
 
-use libc::STDOUT_FILENO;
 use rules::{Answer, Cols, Ending, MatType, Rows, SolverParam, Storage};
 
 const INTERVALS: usize = 1000;
@@ -214,11 +213,11 @@ fn apart(x: f64, y: f64) -> u64 {
 }
 
 // The digits of a number from 1/16 up to 128, without rounding: in parts of 2^-56 it is whole.
-fn write_decimals(x: f64) {
+fn write_decimals<P: Print>(out: &P, x: f64) {
     let parts = whole(x * 72057594037927936.0);
-    io::print_decimal(STDOUT_FILENO, parts / 72057594037927936);
-    io::write_all(STDOUT_FILENO, b".");
-    write_fraction(parts % 72057594037927936);
+    lines::write_decimal(out, parts / 72057594037927936);
+    lines::write(out, b".");
+    write_fraction(out, parts % 72057594037927936);
 }
 
 // A number without its fraction, 0 where that is none of 64 bits.
@@ -231,87 +230,87 @@ fn whole(x: f64) -> u64 {
     0
 }
 
-fn write_fraction(parts: u64) {
+fn write_fraction<P: Print>(out: &P, parts: u64) {
     let mut rest: u64 = parts;
     for _ in 0..DECIMALS {
         rest = (rest % 72057594037927936) * 10;
-        io::print_decimal(STDOUT_FILENO, rest / 72057594037927936);
+        lines::write_decimal(out, rest / 72057594037927936);
     }
 }
 
-fn write_edition(edition: u32) {
+fn write_edition<P: Print>(out: &P, edition: u32) {
     if edition == 1 {
-        io::write_all(STDOUT_FILENO, b"  from the left ");
+        lines::write(out, b"  from the left ");
     } else {
-        io::write_all(STDOUT_FILENO, b"  by halves     ");
+        lines::write(out, b"  by halves     ");
     }
 }
 
-fn write_number(x: f64, exact: f64) {
-    io::print_hex(STDOUT_FILENO, patterns::pattern_of(x), 16);
-    io::write_all(STDOUT_FILENO, b" ");
-    write_decimals(x);
-    io::write_all(STDOUT_FILENO, b", off by ");
-    io::print_decimal(STDOUT_FILENO, apart(x, exact));
+fn write_number<P: Print>(out: &P, x: f64, exact: f64) {
+    lines::write_pattern(out, patterns::pattern_of(x));
+    lines::write(out, b" ");
+    write_decimals(out, x);
+    lines::write(out, b", off by ");
+    lines::write_decimal(out, apart(x, exact));
 }
 
-fn write_sum(edition: u32) {
-    write_edition(edition);
-    write_number(interval_sum(edition), 100.0);
-    io::write_all(STDOUT_FILENO, b"\n");
+fn write_sum<P: Print>(out: &P, edition: u32) {
+    write_edition(out, edition);
+    write_number(out, interval_sum(edition), 100.0);
+    lines::write(out, b"\n");
 }
 
-fn write_norm(edition: u32) {
-    write_edition(edition);
-    write_number(miss_norm(edition), 3.0);
-    io::write_all(STDOUT_FILENO, b"\n");
+fn write_norm<P: Print>(out: &P, edition: u32) {
+    write_edition(out, edition);
+    write_number(out, miss_norm(edition), 3.0);
+    lines::write(out, b"\n");
 }
 
-fn write_told(fit: Fit, edition: u32) {
+fn write_told<P: Print>(out: &P, fit: Fit, edition: u32) {
     let told = solved(fit, edition);
-    write_edition(edition);
-    write_number(told.offset, 1.0);
-    io::write_all(STDOUT_FILENO, b"; drift ");
-    write_number(told.drift, 0.25);
+    write_edition(out, edition);
+    write_number(out, told.offset, 1.0);
+    lines::write(out, b"; drift ");
+    write_number(out, told.drift, 0.25);
     if !told.last {
-        io::write_all(STDOUT_FILENO, b"; another ending, after ");
-        io::print_decimal(STDOUT_FILENO, told.steps);
-        io::write_all(STDOUT_FILENO, b" steps");
+        lines::write(out, b"; another ending, after ");
+        lines::write_decimal(out, told.steps);
+        lines::write(out, b" steps");
     }
-    io::write_all(STDOUT_FILENO, b"\n");
+    lines::write(out, b"\n");
 }
 
-fn write_fit(marks: usize, half: f64, bound: f64) {
+fn write_fit<P: Print>(out: &P, marks: usize, half: f64, bound: f64) {
     let fit = Fit {
         m: std::num::wrapping_add_usize(marks, 1),
         half,
         bound,
     };
-    io::print_decimal(STDOUT_FILENO, marks as u64);
-    io::write_all(STDOUT_FILENO, b" marks, 3,000 steps\n");
-    write_told(fit, 1);
-    write_told(fit, 2);
+    lines::write_decimal(out, marks as u64);
+    lines::write(out, b" marks, 3,000 steps\n");
+    write_told(out, fit, 1);
+    write_told(out, fit, 2);
 }
 
-fn main() {
-    io::write_all(
-        STDOUT_FILENO,
+fn main(rt: HostRuntime) {
+    lines::write(
+        &rt,
         b"The sum of 1,000 intervals of 0.1; nearest to the exact sum is 100\n",
     );
-    write_sum(1);
-    write_sum(2);
-    io::write_all(
-        STDOUT_FILENO,
+    write_sum(&rt, 1);
+    write_sum(&rt, 2);
+    lines::write(
+        &rt,
         b"The norm of 900 misses of 0.1; nearest to the exact norm is 3\n",
     );
-    write_norm(1);
-    write_norm(2);
-    io::write_all(
-        STDOUT_FILENO,
+    write_norm(&rt, 1);
+    write_norm(&rt, 2);
+    lines::write(
+        &rt,
         b"The latest offset of a fit, and its drift; exactly they are 1 and 0.25\n",
     );
-    write_fit(16, 0.0625, 5.0);
-    write_fit(100, 0.0078125, 12.5);
-    write_fit(400, 0.001953125, 25.0);
-    write_fit(900, 0.0009765625, 37.5);
+    write_fit(&rt, 16, 0.0625, 5.0);
+    write_fit(&rt, 100, 0.0078125, 12.5);
+    write_fit(&rt, 400, 0.001953125, 25.0);
+    write_fit(&rt, 900, 0.0009765625, 37.5);
 }

@@ -12,61 +12,62 @@ ghost use Rattle.std.specs.Prelude.{◌+◌, ◌<◌};
 
 use card_file::ENOUGH;
 use card_input::{Input, Number};
-use libc::STDERR_FILENO;
 use piece_rules::RunRecord;
 use state::{CONE_WORK, State, WORDS, WORK};
+use std::rt::{Env, Files, Runtime};
 
-fn main() {
-    let count = os::arg_count();
+fn main(rt: HostRuntime) {
+    let count = card_input::argument_count(&rt);
     if count < 3 || count % 3 == 2 {
-        tell_use();
+        tell_use(&rt);
         return;
     }
     for group in 0..count / 3 {
-        take_piece(3 * group + 1);
+        take_piece(&rt, 3 * group + 1);
     }
 }
 
-fn tell_use() {
-    io::write_all(
-        STDERR_FILENO,
-        b"piece_card: groups of a card, a number of steps from 0 to 4294967295, and a state or -\n",
+fn tell_use<R: Eprint>(rt: &R) {
+    let _ = eprintln!(rt;
+        "piece_card: groups of a card, a number of steps from 0 to 4294967295, and a state or -"
     );
 }
 
 // The group that starts at an argument.
-fn take_piece(i: usize)
+fn take_piece<R: Runtime>(rt: &R, i: usize)
     requires { i + 2 < 18446744073709551616 }
 {
     let mut bytes = [0u8; ENOUGH];
-    if let Input::Read(length) = card_input::read_argument(i, &mut bytes) {
-        take_piece_of(&bytes[..length], i);
+    if let Input::Read(length) = card_input::read_argument(rt, i, &mut bytes) {
+        take_piece_of(rt, &bytes[..length], i);
     }
 }
 
-fn take_piece_of(card: &[u8], i: usize)
+fn take_piece_of<R: Runtime>(rt: &R, card: &[u8], i: usize)
     requires { i + 2 < 18446744073709551616 }
 {
-    match card_input::number_argument(i + 1) {
-        Number::None => tell_use(),
+    match card_input::number_argument(rt, i + 1) {
+        Number::None => tell_use(rt),
         Number::Is(given) => {
-            if is_none(i + 2) {
-                begin(card, given);
+            if is_none(rt, i + 2) {
+                begin(rt, card, given);
             } else {
-                go_on(card, given, i + 2);
+                go_on(rt, card, given, i + 2);
             }
         }
     }
 }
 
 // Whether an argument names no state.
-fn is_none(i: usize) -> bool {
-    if i >= os::arg_count() {
+fn is_none<R: Env>(rt: &R, i: usize) -> bool {
+    if !card_input::is_argument(rt, i) {
         return true;
     }
-    let mut name = io::buffer();
-    let length = os::arg(i, &mut name);
-    is_dash(&name[..length])
+    let mut name = [0u8; 2];
+    match rt.arg(i, &mut name) {
+        Ok(length) => is_dash(&name[..length]),
+        Err(_) => false,
+    }
 }
 
 fn is_dash(name: &[u8]) -> bool {
@@ -76,31 +77,42 @@ fn is_dash(name: &[u8]) -> bool {
     name[0] == b'-'
 }
 
-fn begin(card: &[u8], given: u32) {
+fn begin<R: Print + Eprint>(rt: &R, card: &[u8], given: u32) {
     let mut work = [0.0; WORK];
     let mut cone_work = [0.0; CONE_WORK];
     let told = card_pieces::first_of_card(card, given, &mut work, &mut cone_work);
-    text::write_told(told, &work, &cone_work);
+    text::write_told(rt, told, &work, &cone_work);
 }
 
 // Goes on from the state that an argument names.
-fn go_on(card: &[u8], given: u32, i: usize) {
+fn go_on<R: Env + Files + Print + Eprint>(rt: &R, card: &[u8], given: u32, i: usize) {
     let mut words = [0u64; WORDS];
-    match state::read_state(i, &mut words) {
-        State::Read(record) => go_on_from(card, given, record, &words),
+    match state::read_state(rt, i, &mut words) {
+        State::Read(record) => go_on_from(rt, card, given, record, &words),
         State::NoFile => {}
-        State::NoMark => text::write_damaged(b"it has no line `state`\n"),
+        State::NoMark => text::write_damaged(rt, "it has no line `state`"),
         State::NoWords => text::write_damaged(
-            b"it has not 595 lines of 16 hexadecimal digits after `state`\n",
+            rt,
+            "it has not 595 lines of 16 hexadecimal digits after `state`",
         ),
-        State::NoRecord => text::write_damaged(b"its first 21 words are not the record of a run\n"),
+        State::NoRecord => text::write_damaged(
+            rt,
+            "its first 21 words are not the record of a run",
+        ),
     }
 }
 
-fn go_on_from(card: &[u8], given: u32, record: RunRecord, words: &[u64; WORDS]) {
+fn go_on_from<R: Print + Eprint>(
+    rt: &R,
+    card: &[u8],
+    given: u32,
+    record: RunRecord,
+    words: &[u64; WORDS],
+) {
     let mut work = card_problem::numbers_from(words, state::WORK_AT);
     let mut cone_work = card_problem::numbers_from(words, state::CONE_WORK_AT);
     go_on_in(
+        rt,
         card,
         given,
         record,
@@ -109,7 +121,14 @@ fn go_on_from(card: &[u8], given: u32, record: RunRecord, words: &[u64; WORDS]) 
     );
 }
 
-fn go_on_in(card: &[u8], given: u32, record: RunRecord, work: &mut [f64], cone_work: &mut [f64]) {
+fn go_on_in<R: Print + Eprint>(
+    rt: &R,
+    card: &[u8],
+    given: u32,
+    record: RunRecord,
+    work: &mut [f64],
+    cone_work: &mut [f64],
+) {
     let told = card_pieces::later_of_card(card, record, given, work, cone_work);
-    text::write_told(told, work, cone_work);
+    text::write_told(rt, told, work, cone_work);
 }

@@ -3,9 +3,10 @@
 ghost use Rattle.std.specs.Prelude.{◌+◌, ◌≤◌, ◌≡◌, length};
 
 use card_input::Input;
-use libc::STDOUT_FILENO;
 use piece_rules::RunRecord;
 use run_record::{RECORD_WORDS, ReadRecord};
+use std::io;
+use std::rt::{Env, Files};
 
 pub(crate) const WORK: usize = card_answer::WORK;
 
@@ -33,9 +34,13 @@ pub(crate) enum State {
 }
 
 // Reads the state in the file that an argument names.
-pub(crate) fn read_state(i: usize, words: &mut [u64; WORDS]) -> State {
+pub(crate) fn read_state<R: Env + Files + Eprint>(
+    rt: &R,
+    i: usize,
+    words: &mut [u64; WORDS],
+) -> State {
     let mut bytes = [0u8; MOST];
-    match card_input::read_file(i, &mut bytes) {
+    match card_input::read_file(rt, i, &mut bytes) {
         Input::Unreadable => State::NoFile,
         Input::Read(length) => state_in(&bytes[..length], words),
     }
@@ -138,35 +143,36 @@ fn wide(x: u8) -> u64 {
     x as u64
 }
 
-// Writes a state. Answers whether all could be written.
-pub(crate) fn write_state(record: RunRecord, work: &[f64], cone_work: &[f64]) -> bool {
+// Writes a state.
+pub(crate) fn write_state<P: Print>(
+    out: &P,
+    record: RunRecord,
+    work: &[f64],
+    cone_work: &[f64],
+) -> io::Result<()> {
     let mut words = [0u64; RECORD_WORDS];
     run_record::write_record(record, &mut words);
-    io::write_all(STDOUT_FILENO, b"state\n")
-        && write_words(&words)
-        && write_numbers(work)
-        && write_numbers(cone_work)
+    println!(out; "state")?;
+    write_words(out, &words)?;
+    write_numbers(out, work)?;
+    write_numbers(out, cone_work)
 }
 
-fn write_words(words: &[u64]) -> bool {
+fn write_words<P: Print>(out: &P, words: &[u64]) -> io::Result<()> {
     for i in 0..words.len() {
-        if !write_word(words[i]) {
-            return false;
-        }
+        write_word(out, words[i])?;
     }
-    true
+    Ok(())
 }
 
 // Writes numbers, each on a line.
-pub(crate) fn write_numbers(numbers: &[f64]) -> bool {
+pub(crate) fn write_numbers<P: Print>(out: &P, numbers: &[f64]) -> io::Result<()> {
     for i in 0..numbers.len() {
-        if !write_word(patterns::pattern_of(numbers[i])) {
-            return false;
-        }
+        write_word(out, patterns::pattern_of(numbers[i]))?;
     }
-    true
+    Ok(())
 }
 
-fn write_word(word: u64) -> bool {
-    io::print_hex(STDOUT_FILENO, word, 16) && io::write_all(STDOUT_FILENO, b"\n")
+fn write_word<P: Print>(out: &P, word: u64) -> io::Result<()> {
+    println!(out; "{word:016x}")
 }

@@ -2,51 +2,56 @@
 use crate::state;
 use card_answer::ToldLogged;
 use card_pieces::ToldPiece;
-use libc::STDOUT_FILENO;
 use piece_rules::PieceAnswer;
 use rules::{Answer, Cols, Ending, Logged, Rows};
+use std::io;
 
-pub(crate) fn write_told(told: ToldPiece, work: &[f64], cone_work: &[f64]) {
+pub(crate) fn write_told<R: Print + Eprint>(
+    rt: &R,
+    told: ToldPiece,
+    work: &[f64],
+    cone_work: &[f64],
+) {
     let written = match told {
-        ToldPiece::Fault(fault) => write_first(ToldLogged::Fault(fault)),
+        ToldPiece::Fault(fault) => write_first(rt, ToldLogged::Fault(fault)),
         ToldPiece::Answered(rows, cols, answer) => {
-            write_answer(rows, cols, answer, work, cone_work)
+            write_answer(rt, rows, cols, answer, work, cone_work)
         }
     };
-    if !written {
-        os::fail(b"standard output");
+    if let Err(e) = written {
+        card_input::fail(rt, "standard output", e);
     }
 }
 
 // Why a state can't be taken up.
-pub(crate) fn write_damaged(why: &[u8]) {
-    if !(io::write_all(STDOUT_FILENO, b"State damaged: ") && io::write_all(STDOUT_FILENO, why)) {
-        os::fail(b"standard output");
+pub(crate) fn write_damaged<R: Print + Eprint>(rt: &R, why: &str) {
+    if let Err(e) = println!(rt; "State damaged: {why}") {
+        card_input::fail(rt, "standard output", e);
     }
 }
 
-// Answers whether all could be written.
-fn write_answer(
+fn write_answer<P: Print>(
+    out: &P,
     rows: Rows,
     cols: Cols,
     answer: PieceAnswer,
     work: &[f64],
     cone_work: &[f64],
-) -> bool {
+) -> io::Result<()> {
     match answer {
         PieceAnswer::Refused(ending) => {
-            write_first(ToldLogged::Answered(rows, cols, turned_away(ending)))
+            write_first(out, ToldLogged::Answered(rows, cols, turned_away(ending)))
         }
-        PieceAnswer::StaleRun => io::write_all(STDOUT_FILENO, b"Refused 7\n"),
+        PieceAnswer::StaleRun => println!(out; "Refused 7"),
         PieceAnswer::Halted(record) => {
-            write_halted(record.steps, record.rotations)
-                && state::write_state(record, work, cone_work)
+            write_halted(out, record.steps, record.rotations)?;
+            state::write_state(out, record, work, cone_work)
         }
         PieceAnswer::Ended(logged, record) => {
-            write_first(ToldLogged::Answered(rows, cols, logged))
-                && state::write_numbers(solution::solution_x(work, cols))
-                && state::write_numbers(solution::solution_y(work, rows, cols))
-                && state::write_state(record, work, cone_work)
+            write_first(out, ToldLogged::Answered(rows, cols, logged))?;
+            state::write_numbers(out, solution::solution_x(work, cols))?;
+            state::write_numbers(out, solution::solution_y(work, rows, cols))?;
+            state::write_state(out, record, work, cone_work)
         }
     }
 }
@@ -66,16 +71,12 @@ fn turned_away(ending: Ending) -> Logged {
 }
 
 // The first line of the text that solve_card writes.
-fn write_first(told: ToldLogged) -> bool {
+fn write_first<P: Print>(out: &P, told: ToldLogged) -> io::Result<()> {
     let mut text = [0u8; card_text::TEXT_ROOM];
     let end = card_text::first_line(told, &mut text);
-    io::write_all(STDOUT_FILENO, &text[..end])
+    out.write_all(&text[..end])
 }
 
-fn write_halted(steps: u64, rotations: u64) -> bool {
-    io::write_all(STDOUT_FILENO, b"Halted ")
-        && io::print_decimal(STDOUT_FILENO, steps)
-        && io::write_all(STDOUT_FILENO, b" ")
-        && io::print_decimal(STDOUT_FILENO, rotations)
-        && io::write_all(STDOUT_FILENO, b"\n")
+fn write_halted<P: Print>(out: &P, steps: u64, rotations: u64) -> io::Result<()> {
+    println!(out; "Halted {steps} {rotations}")
 }

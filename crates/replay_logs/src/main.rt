@@ -3,9 +3,9 @@
 // the list. Each dense one is then run by solver::solve_split_logged, cut after so many columns, and held to the same record.
 #![tactic(auto)]
 
-use libc::STDOUT_FILENO;
 use replay_problems::runs::{Cut, Found};
 use replay_problems::{cuts, logs, runs};
+use std::io::Read;
 
 // The longest record that there is room for, and the most numbers of A. The longest of the list has 993 words, and the largest matrix 3,075 numbers.
 const RECORD_WORDS: usize = 2048;
@@ -27,7 +27,8 @@ const CUT: usize = 15;
 const COUNTED: usize = 16;
 
 // Reads a record and replays it: whether there was a whole one of a known kind.
-fn replay_one(
+fn replay_one<R: Read>(
+    input: &mut R,
     bytes: &mut [u8],
     a: &mut [f64],
     agree: &mut [u64; COUNTED],
@@ -35,15 +36,16 @@ fn replay_one(
 ) -> bool {
     // The first word adds up the listed differences that the problem meets, which are counted with the runs.
     let mut head = [0u8; 16];
-    if !lines::read(&mut head, 16) {
+    if !lines::read(input, &mut head, 16) {
         return false;
     }
     let words = patterns::word_at(&head, 8);
-    replay_rest(words, bytes, a, agree, differ)
+    replay_rest(input, words, bytes, a, agree, differ)
 }
 
 // Goes on after the first two words of a record.
-fn replay_rest(
+fn replay_rest<R: Read>(
+    input: &mut R,
     words: u64,
     bytes: &mut [u8],
     a: &mut [f64],
@@ -57,7 +59,7 @@ fn replay_rest(
     if length > bytes.len() {
         return false;
     }
-    if !lines::read(bytes, length) {
+    if !lines::read(input, bytes, length) {
         return false;
     }
     replay_record(&bytes[0..length], a, agree, differ)
@@ -132,7 +134,8 @@ fn count_if(tally: &mut [u64; COUNTED], met: bool, at: usize) -> bool {
 }
 
 // Replays so many records, or up to one that can't be: whether all were, and nothing follows.
-fn replay(
+fn replay<R: Read>(
+    input: &mut R,
     records: u64,
     bytes: &mut [u8],
     a: &mut [f64],
@@ -140,11 +143,11 @@ fn replay(
     differ: &mut [u64; COUNTED],
 ) -> bool {
     for _ in 0..records {
-        if !replay_one(bytes, a, agree, differ) {
+        if !replay_one(input, bytes, a, agree, differ) {
             return false;
         }
     }
-    lines::at_end()
+    lines::at_end(input)
 }
 
 // Room for the longest record and for A. An array that a call answers has a length and nothing else that a proof would go into.
@@ -157,30 +160,31 @@ fn numbers_of_a() -> [f64; A_NUMBERS] {
 }
 
 // Writes the name of what is counted, if there is one of this number.
-fn write_name(number: usize) -> bool {
+fn write_name<P: Print>(out: &P, number: usize) -> bool {
     if number <= 12 {
-        return lines::write_answer(number);
+        return lines::write_answer(out, number);
     }
     match number {
-        13 => io::write_all(STDOUT_FILENO, b"of all these, with rows written"),
-        14 => io::write_all(STDOUT_FILENO, b"of all these, with rows dropped"),
-        15 => io::write_all(STDOUT_FILENO, b"once more, cut in two slices"),
+        13 => lines::write(out, b"of all these, with rows written"),
+        14 => lines::write(out, b"of all these, with rows dropped"),
+        15 => lines::write(out, b"once more, cut in two slices"),
         _ => false,
     }
 }
 
-fn write_counted(agree: &[u64; COUNTED], differ: &[u64; COUNTED]) {
+fn write_counted<P: Print>(out: &P, agree: &[u64; COUNTED], differ: &[u64; COUNTED]) {
     for number in 0..COUNTED {
-        if write_name(number) {
+        if write_name(out, number) {
             let records = std::num::wrapping_add_u64(agree[number], differ[number]);
-            lines::write_counts(records, agree[number], differ[number]);
+            lines::write_counts(out, records, agree[number], differ[number]);
         }
     }
 }
 
-fn write_total(whole: bool, agree: &[u64; COUNTED], differ: &[u64; COUNTED]) {
+fn write_total<P: Print>(out: &P, whole: bool, agree: &[u64; COUNTED], differ: &[u64; COUNTED]) {
     let records = std::num::wrapping_add_u64(agree[ALL], differ[ALL]);
     lines::write_total(
+        out,
         b"runs with a progress record",
         whole,
         records,
@@ -189,10 +193,11 @@ fn write_total(whole: bool, agree: &[u64; COUNTED], differ: &[u64; COUNTED]) {
     );
 }
 
-fn main() {
+fn main(rt: HostRuntime) {
+    let mut input = rt.stdin();
     let mut head = [0u8; 8];
-    if !lines::read(&mut head, 8) {
-        io::write_all(STDOUT_FILENO, b"stopped: there is no list\n");
+    if !lines::read(&mut input, &mut head, 8) {
+        lines::write(&rt, b"stopped: there is no list\n");
         return;
     }
     let mut bytes = bytes_of_a_record();
@@ -200,7 +205,14 @@ fn main() {
     let mut agree = [0u64; COUNTED];
     let mut differ = [0u64; COUNTED];
     let records = patterns::word_at(&head, 0);
-    let whole = replay(records, &mut bytes, &mut a, &mut agree, &mut differ);
-    write_counted(&agree, &differ);
-    write_total(whole, &agree, &differ);
+    let whole = replay(
+        &mut input,
+        records,
+        &mut bytes,
+        &mut a,
+        &mut agree,
+        &mut differ,
+    );
+    write_counted(&rt, &agree, &differ);
+    write_total(&rt, whole, &agree, &differ);
 }

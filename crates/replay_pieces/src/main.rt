@@ -3,13 +3,13 @@
 // every piece before the last halts after the steps that it was given, the last one answers as the uncut run, and all three buffers are the same, place by place.
 #![tactic(auto)]
 
-use libc::STDOUT_FILENO;
 use replay::record;
 use replay_cuts::handed::{Handed, Lent, ReadProblem};
 use replay_cuts::held::{Cuts, Uncut};
 use replay_cuts::{handed, held, same};
 use replay_problems::{cuts, logs, room};
 use rules::Logged;
+use std::io::Read;
 
 // The longest record that there is room for, and the most numbers of a problem. The longest of the list has 993 words, and the most numbers are 4,103.
 const RECORD_WORDS: usize = 2048;
@@ -353,9 +353,9 @@ fn replay_parts(run: &[u8], log: &[u8], tally: &mut [u64; TALLIED]) -> bool {
 }
 
 // Reads a record and replays it: whether there was a whole one of a known kind.
-fn replay_one(bytes: &mut [u8], tally: &mut [u64; TALLIED]) -> bool {
+fn replay_one<R: Read>(input: &mut R, bytes: &mut [u8], tally: &mut [u64; TALLIED]) -> bool {
     let mut head = [0u8; 16];
-    if !lines::read(&mut head, 16) {
+    if !lines::read(input, &mut head, 16) {
         return false;
     }
     let words = patterns::word_at(&head, 8);
@@ -366,20 +366,25 @@ fn replay_one(bytes: &mut [u8], tally: &mut [u64; TALLIED]) -> bool {
     if length > bytes.len() {
         return false;
     }
-    if !lines::read(bytes, length) {
+    if !lines::read(input, bytes, length) {
         return false;
     }
     replay_record(&bytes[0..length], tally)
 }
 
 // Replays so many records, or up to one that can't be: whether all were, and nothing follows.
-fn replay(records: u64, bytes: &mut [u8], tally: &mut [u64; TALLIED]) -> bool {
+fn replay<R: Read>(
+    input: &mut R,
+    records: u64,
+    bytes: &mut [u8],
+    tally: &mut [u64; TALLIED],
+) -> bool {
     for _ in 0..records {
-        if !replay_one(bytes, tally) {
+        if !replay_one(input, bytes, tally) {
             return false;
         }
     }
-    lines::at_end()
+    lines::at_end(input)
 }
 
 // Room for the longest record, for its numbers and for buffers. An array that a call answers has a length and nothing else that a proof would go into.
@@ -408,60 +413,62 @@ fn room_of_log() -> [f64; room::LOG_ROOM] {
 }
 
 // Writes the name of what is counted, if there is one of this number.
-fn write_name(number: usize) -> bool {
+fn write_name<P: Print>(out: &P, number: usize) -> bool {
     if number <= 12 {
-        return lines::write_answer(number);
+        return lines::write_answer(out, number);
     }
     match number {
-        13 => io::write_all(STDOUT_FILENO, b"into pieces of one step"),
+        13 => lines::write(out, b"into pieces of one step"),
         14 => {
-            io::write_all(
-                STDOUT_FILENO,
+            lines::write(
+                out,
                 b"into pieces of one step, with pieces of no step between",
             )
         }
-        15 => io::write_all(STDOUT_FILENO, b"into pieces of up to 7 steps, as drawn"),
-        16 => io::write_all(STDOUT_FILENO, b"into pieces of up to 63 steps, as drawn"),
-        17 => {
-            io::write_all(
-                STDOUT_FILENO,
-                b"in two, before the first step and after each",
-            )
-        }
-        18 => io::write_all(STDOUT_FILENO, b"turned away at the first piece"),
-        19 => io::write_all(STDOUT_FILENO, b"of all cut runs, in edition two"),
-        20 => io::write_all(STDOUT_FILENO, b"of all cut runs, A in two slices"),
+        15 => lines::write(out, b"into pieces of up to 7 steps, as drawn"),
+        16 => lines::write(out, b"into pieces of up to 63 steps, as drawn"),
+        17 => { lines::write(out, b"in two, before the first step and after each") }
+        18 => lines::write(out, b"turned away at the first piece"),
+        19 => lines::write(out, b"of all cut runs, in edition two"),
+        20 => lines::write(out, b"of all cut runs, A in two slices"),
         _ => false,
     }
 }
 
-fn write_counted(tally: &[u64; TALLIED]) {
+fn write_counted<P: Print>(out: &P, tally: &[u64; TALLIED]) {
     for number in 0..COUNTED {
-        if write_name(number) {
+        if write_name(out, number) {
             let agree = tally[number];
             let differ = tally[number + COUNTED];
-            lines::write_counts(std::num::wrapping_add_u64(agree, differ), agree, differ);
+            lines::write_counts(
+                out,
+                std::num::wrapping_add_u64(agree, differ),
+                agree,
+                differ,
+            );
         }
     }
 }
 
-fn main() {
+fn main(rt: HostRuntime) {
+    let mut input = rt.stdin();
     let mut head = [0u8; 8];
-    if !lines::read(&mut head, 8) {
-        io::write_all(STDOUT_FILENO, b"stopped: there is no list\n");
+    if !lines::read(&mut input, &mut head, 8) {
+        lines::write(&rt, b"stopped: there is no list\n");
         return;
     }
     let mut bytes = room_of_a_record();
     let mut tally = [0u64; TALLIED];
     let records = patterns::word_at(&head, 0);
-    let whole = replay(records, &mut bytes, &mut tally);
-    write_counted(&tally);
-    io::write_all(STDOUT_FILENO, b"pieces: ");
-    io::print_decimal(STDOUT_FILENO, tally[PIECES]);
-    io::write_all(STDOUT_FILENO, b"\n");
+    let whole = replay(&mut input, records, &mut bytes, &mut tally);
+    write_counted(&rt, &tally);
+    lines::write(&rt, b"pieces: ");
+    lines::write_decimal(&rt, tally[PIECES]);
+    lines::write(&rt, b"\n");
     let agree = tally[ALL];
     let differ = tally[COUNTED];
     lines::write_total(
+        &rt,
         b"problems run in pieces",
         whole,
         std::num::wrapping_add_u64(agree, differ),

@@ -3,7 +3,7 @@
 // by root::root and held to the list.
 #![tactic(auto)]
 
-use libc::STDOUT_FILENO;
+use std::io::Read;
 
 #[derive(Clone, Copy)]
 struct Tally {
@@ -18,9 +18,9 @@ enum Found {
     Missing,
 }
 
-fn replay_one() -> Found {
+fn replay_one<R: Read>(input: &mut R) -> Found {
     let mut record = [0u8; 16];
-    if !lines::read(&mut record, 16) {
+    if !lines::read(input, &mut record, 16) {
         return Found::Missing;
     }
     let x = patterns::number_of(patterns::word_at(&record, 0));
@@ -32,11 +32,11 @@ fn replay_one() -> Found {
     }
 }
 
-fn replay(records: u64) -> Tally {
+fn replay<R: Read>(input: &mut R, records: u64) -> Tally {
     let mut agree: u64 = 0;
     let mut differ: u64 = 0;
     for _ in 0..records {
-        let found = replay_one();
+        let found = replay_one(input);
         match found {
             Found::Agrees => agree = std::num::wrapping_add_u64(agree, 1),
             Found::Differs => differ = std::num::wrapping_add_u64(differ, 1),
@@ -48,11 +48,12 @@ fn replay(records: u64) -> Tally {
     Tally { agree, differ }
 }
 
-fn main() {
+fn main(rt: HostRuntime) {
+    let mut input = rt.stdin();
     let mut head = [0u8; 8];
-    lines::read(&mut head, 8);
+    lines::read(&mut input, &mut head, 8);
     let records = patterns::word_at(&head, 0);
-    let tally = replay(records);
-    io::write_all(STDOUT_FILENO, b"roots");
-    lines::write_counts(records, tally.agree, tally.differ);
+    let tally = replay(&mut input, records);
+    lines::write(&rt, b"roots");
+    lines::write_counts(&rt, records, tally.agree, tally.differ);
 }

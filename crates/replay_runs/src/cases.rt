@@ -1,5 +1,4 @@
 // The runs worked by hand in document 01 that are left to a program.
-use libc::STDOUT_FILENO;
 use lines::write_case;
 use rules::{Cols, Rows, SolverParam, Storage};
 
@@ -46,14 +45,11 @@ fn of_zeros(m: usize, n: usize, c: usize, a: usize, work: usize, word: u16) -> u
 }
 
 // The words are a semidefinite block of 3 and of 4. Sizes at the limit are in limit_cases.
-pub fn write_cases() {
-    io::write_all(STDOUT_FILENO, b"kind 4 of size 3, accepted");
-    write_case(of_zeros(3, 1, 1, 3, 42, 32771) > 6);
-    io::write_all(STDOUT_FILENO, b"kind 4 of size 4, refused by 4");
-    write_case(of_zeros(4, 1, 1, 4, 52, 32772) == 4);
-    io::write_all(
-        STDOUT_FILENO,
-        b"c of wrong length and short work, refused by 3",
-    );
-    write_case(of_zeros(3, 1, 2, 3, 41, 32771) == 3);
+pub fn write_cases<P: Print>(out: &P) {
+    lines::write(out, b"kind 4 of size 3, accepted");
+    write_case(out, of_zeros(3, 1, 1, 3, 42, 32771) > 6);
+    lines::write(out, b"kind 4 of size 4, refused by 4");
+    write_case(out, of_zeros(4, 1, 1, 4, 52, 32772) == 4);
+    lines::write(out, b"c of wrong length and short work, refused by 3");
+    write_case(out, of_zeros(3, 1, 2, 3, 41, 32771) == 3);
 }

@@ -7,10 +7,10 @@
 
 mod cases;
 
-use libc::STDOUT_FILENO;
 use replay_problems::room::{A_ROOM, WORK_ROOM};
 use replay_problems::runs::{Cut, Found};
 use replay_problems::{cuts, runs};
+use std::io::Read;
 
 // The longest record that there is room for: as much work as may be lent, and some words for all else. The longest of the list has 16,613.
 const RECORD_WORDS: usize = WORK_ROOM + 512;
@@ -40,23 +40,25 @@ const CUT: usize = 19;
 const COUNTED: usize = 24;
 
 // Reads a record and replays it: whether there was a whole one of a known kind.
-fn replay_one(
+fn replay_one<R: Read>(
+    input: &mut R,
     bytes: &mut [u8],
     a: &mut [f64],
     agree: &mut [u64; COUNTED],
     differ: &mut [u64; COUNTED],
 ) -> bool {
     let mut head = [0u8; 16];
-    if !lines::read(&mut head, 16) {
+    if !lines::read(input, &mut head, 16) {
         return false;
     }
     let tag = patterns::word_at(&head, 0);
     let words = patterns::word_at(&head, 8);
-    replay_rest(tag, words, bytes, a, agree, differ)
+    replay_rest(input, tag, words, bytes, a, agree, differ)
 }
 
 // Goes on after the first two words of a record, the differences met and how many words follow.
-fn replay_rest(
+fn replay_rest<R: Read>(
+    input: &mut R,
     tag: u64,
     words: u64,
     bytes: &mut [u8],
@@ -71,7 +73,7 @@ fn replay_rest(
     if length > bytes.len() {
         return false;
     }
-    if !lines::read(bytes, length) {
+    if !lines::read(input, bytes, length) {
         return false;
     }
     let found = replay_as_it_stands(&bytes[0..length], a);
@@ -136,7 +138,8 @@ fn count_if(tally: &mut [u64; COUNTED], met: bool, at: usize) -> bool {
 }
 
 // Replays so many records, or up to one that can't be: whether all were, and nothing follows.
-fn replay(
+fn replay<R: Read>(
+    input: &mut R,
     records: u64,
     bytes: &mut [u8],
     a: &mut [f64],
@@ -144,11 +147,11 @@ fn replay(
     differ: &mut [u64; COUNTED],
 ) -> bool {
     for _ in 0..records {
-        if !replay_one(bytes, a, agree, differ) {
+        if !replay_one(input, bytes, a, agree, differ) {
             return false;
         }
     }
-    lines::at_end()
+    lines::at_end(input)
 }
 
 // Room for the longest record and for A. An array that a call answers has a length and nothing else that a proof would go into.
@@ -161,41 +164,41 @@ fn numbers_of_a() -> [f64; A_ROOM] {
 }
 
 // Writes the name of what is counted, if there is one of this number.
-fn write_name(number: usize) -> bool {
+fn write_name<P: Print>(out: &P, number: usize) -> bool {
     if number <= 12 {
-        return lines::write_answer(number);
+        return lines::write_answer(out, number);
     }
     if number < CUT {
-        return write_difference(number);
+        return write_difference(out, number);
     }
-    write_cut(number - CUT)
+    write_cut(out, number - CUT)
 }
 
-fn write_difference(number: usize) -> bool {
+fn write_difference<P: Print>(out: &P, number: usize) -> bool {
     match number {
-        13 => io::write_all(STDOUT_FILENO, b"of all these, eps_zero of -0"),
-        14 => io::write_all(STDOUT_FILENO, b"of all these, a sweep limit reached"),
+        13 => lines::write(out, b"of all these, eps_zero of -0"),
+        14 => lines::write(out, b"of all these, a sweep limit reached"),
         15 => {
-            io::write_all(
-                STDOUT_FILENO,
+            lines::write(
+                out,
                 b"of all these, an empty matrix on which the original stops",
             )
         }
         16 => {
-            io::write_all(
-                STDOUT_FILENO,
+            lines::write(
+                out,
                 b"of all these, refused for a tolerance below zero alone",
             )
         }
         17 => {
-            io::write_all(
-                STDOUT_FILENO,
+            lines::write(
+                out,
                 b"of all these, a norm whose plain sum is infinite, of finite numbers",
             )
         }
         18 => {
-            io::write_all(
-                STDOUT_FILENO,
+            lines::write(
+                out,
                 b"apart from these, a larger or smaller of -0 and +0 otherwise",
             )
         }
@@ -204,35 +207,36 @@ fn write_difference(number: usize) -> bool {
 }
 
 // Writes the name of a way to cut a matrix, if there is one of this number.
-fn write_cut(way: usize) -> bool {
+fn write_cut<P: Print>(out: &P, way: usize) -> bool {
     match way {
-        0 => io::write_all(STDOUT_FILENO, b"cut before the first column"),
-        1 => io::write_all(STDOUT_FILENO, b"cut after the first column"),
-        2 => io::write_all(STDOUT_FILENO, b"cut in the middle"),
-        3 => io::write_all(STDOUT_FILENO, b"cut before the last column"),
-        4 => io::write_all(STDOUT_FILENO, b"cut after the last column"),
+        0 => lines::write(out, b"cut before the first column"),
+        1 => lines::write(out, b"cut after the first column"),
+        2 => lines::write(out, b"cut in the middle"),
+        3 => lines::write(out, b"cut before the last column"),
+        4 => lines::write(out, b"cut after the last column"),
         _ => false,
     }
 }
 
-fn write_counted(agree: &[u64; COUNTED], differ: &[u64; COUNTED]) {
+fn write_counted<P: Print>(out: &P, agree: &[u64; COUNTED], differ: &[u64; COUNTED]) {
     for number in 0..COUNTED {
-        if write_name(number) {
+        if write_name(out, number) {
             let records = std::num::wrapping_add_u64(agree[number], differ[number]);
-            lines::write_counts(records, agree[number], differ[number]);
+            lines::write_counts(out, records, agree[number], differ[number]);
         }
     }
 }
 
-fn write_total(whole: bool, agree: &[u64; COUNTED], differ: &[u64; COUNTED]) {
+fn write_total<P: Print>(out: &P, whole: bool, agree: &[u64; COUNTED], differ: &[u64; COUNTED]) {
     let records = std::num::wrapping_add_u64(agree[ALL], differ[ALL]);
-    lines::write_total(b"runs", whole, records, agree[ALL], differ[ALL]);
+    lines::write_total(out, b"runs", whole, records, agree[ALL], differ[ALL]);
 }
 
-fn main() {
+fn main(rt: HostRuntime) {
+    let mut input = rt.stdin();
     let mut head = [0u8; 8];
-    if !lines::read(&mut head, 8) {
-        io::write_all(STDOUT_FILENO, b"stopped: there is no list\n");
+    if !lines::read(&mut input, &mut head, 8) {
+        lines::write(&rt, b"stopped: there is no list\n");
         return;
     }
     let mut bytes = bytes_of_a_record();
@@ -240,8 +244,15 @@ fn main() {
     let mut agree = [0u64; COUNTED];
     let mut differ = [0u64; COUNTED];
     let records = patterns::word_at(&head, 0);
-    let whole = replay(records, &mut bytes, &mut a, &mut agree, &mut differ);
-    write_counted(&agree, &differ);
-    write_total(whole, &agree, &differ);
-    cases::write_cases();
+    let whole = replay(
+        &mut input,
+        records,
+        &mut bytes,
+        &mut a,
+        &mut agree,
+        &mut differ,
+    );
+    write_counted(&rt, &agree, &differ);
+    write_total(&rt, whole, &agree, &differ);
+    cases::write_cases(&rt);
 }

@@ -4,7 +4,6 @@ ghost use Rattle.rules.specs.Arithmetic.{+0};
 ghost use Rattle.rules.specs.Parameters.{param_of};
 ghost use Rattle.replay_semidefinite.specs.Answers.{done_by, failed_by, turned_down};
 
-use libc::STDOUT_FILENO;
 use replay::{record, room};
 use rules::{Cone, Projection, SolverParam};
 
@@ -214,29 +213,29 @@ fn one_off_the_diagonal(sweep_limit: u64) -> Projection {
     eig::map_eig(par, 2, &mut x, &mut work)
 }
 
-fn write_case(holds: bool) -> bool {
+fn write_case<P: Print>(out: &P, holds: bool) -> bool {
     if holds {
-        io::write_all(STDOUT_FILENO, b": holds\n")
+        lines::write(out, b": holds\n")
     } else {
-        io::write_all(STDOUT_FILENO, b": does not hold\n")
+        lines::write(out, b": does not hold\n")
     }
 }
 
 // Runs and writes the cases worked by hand.
-pub fn write_cases() {
-    io::write_all(
-        STDOUT_FILENO,
+pub fn write_cases<P: Print>(out: &P) {
+    lines::write(
+        out,
         b"semidefinite (5, 0, -5), within 10^-6 of (5, 0, 0), no rotation",
     );
-    write_case(far_from_definite());
-    io::write_all(
-        STDOUT_FILENO,
+    write_case(out, far_from_definite());
+    lines::write(
+        out,
         b"semidefinite (0, 1, 0), sweep limit 1, fails, one rotation",
     );
-    write_case(is_failed(one_off_the_diagonal(1), 1));
-    io::write_all(
-        STDOUT_FILENO,
+    write_case(out, is_failed(one_off_the_diagonal(1), 1));
+    lines::write(
+        out,
         b"semidefinite (0, 1, 0), sweep limit 2, succeeds, one rotation",
     );
-    write_case(is_done(one_off_the_diagonal(2), 1));
+    write_case(out, is_done(one_off_the_diagonal(2), 1));
 }

@@ -5,27 +5,27 @@
 
 use card_file::ENOUGH;
 use card_input::Input;
-use libc::STDOUT_FILENO;
+use std::rt::Runtime;
 
-fn main() {
-    solve_argument(1);
-    for i in 2..os::arg_count() {
-        solve_argument(i);
+fn main(rt: HostRuntime) {
+    solve_argument(&rt, 1);
+    for i in 2..card_input::argument_count(&rt) {
+        solve_argument(&rt, i);
     }
 }
 
-fn solve_argument(i: usize) {
+fn solve_argument<R: Runtime>(rt: &R, i: usize) {
     let mut bytes = [0u8; ENOUGH];
-    if let Input::Read(length) = card_input::read_argument(i, &mut bytes) {
-        solve(&bytes[..length]);
+    if let Input::Read(length) = card_input::read_argument(rt, i, &mut bytes) {
+        solve(rt, &bytes[..length]);
     }
 }
 
 // Writes the answer to a card.
-fn solve(bytes: &[u8]) {
+fn solve<R: Print + Eprint>(rt: &R, bytes: &[u8]) {
     let mut text = [0u8; card_text::TEXT_ROOM];
     let end = card_text::answer_text(bytes, &mut text);
-    if !io::write_all(STDOUT_FILENO, &text[..end]) {
-        os::fail(b"standard output");
+    if let Err(e) = rt.write_all(&text[..end]) {
+        card_input::fail(rt, "standard output", e);
     }
 }

@@ -1,7 +1,6 @@
 // Runs and refusals of a small dense problem in two slices, and its columns, worked by hand.
 #![tactic(auto)]
 
-use libc::STDOUT_FILENO;
 use lines::write_case;
 use rules::{Cols, LIMIT, Rows, SolverParam};
 
@@ -112,94 +111,76 @@ fn first_of(column: &[f64]) -> f64 {
 }
 
 // Each slice's length by itself, and n1 above n.
-fn write_lengths() {
-    io::write_all(STDOUT_FILENO, b"a factory of 1 column, accepted");
-    write_case(lengths(1, 2, 4) > 6);
-    io::write_all(STDOUT_FILENO, b"an empty factory, accepted");
-    write_case(lengths(0, 0, 6) > 6);
-    io::write_all(STDOUT_FILENO, b"an empty lesson, accepted");
-    write_case(lengths(3, 6, 0) > 6);
-    io::write_all(
-        STDOUT_FILENO,
-        b"lengths that only sum rightly, refused by 3",
-    );
-    write_case(lengths(1, 4, 2) == 3);
-    io::write_all(STDOUT_FILENO, b"n1 counted in rows, refused by 3");
-    write_case(lengths(1, 3, 3) == 3);
-    io::write_all(STDOUT_FILENO, b"a factory that is too short, refused by 3");
-    write_case(lengths(1, 1, 4) == 3);
-    io::write_all(STDOUT_FILENO, b"a lesson that is too long, refused by 3");
-    write_case(lengths(1, 2, 5) == 3);
-    io::write_all(STDOUT_FILENO, b"n1 above n, refused by 3");
-    write_case(lengths(4, 8, 0) == 3);
+fn write_lengths<P: Print>(out: &P) {
+    lines::write(out, b"a factory of 1 column, accepted");
+    write_case(out, lengths(1, 2, 4) > 6);
+    lines::write(out, b"an empty factory, accepted");
+    write_case(out, lengths(0, 0, 6) > 6);
+    lines::write(out, b"an empty lesson, accepted");
+    write_case(out, lengths(3, 6, 0) > 6);
+    lines::write(out, b"lengths that only sum rightly, refused by 3");
+    write_case(out, lengths(1, 4, 2) == 3);
+    lines::write(out, b"n1 counted in rows, refused by 3");
+    write_case(out, lengths(1, 3, 3) == 3);
+    lines::write(out, b"a factory that is too short, refused by 3");
+    write_case(out, lengths(1, 1, 4) == 3);
+    lines::write(out, b"a lesson that is too long, refused by 3");
+    write_case(out, lengths(1, 2, 5) == 3);
+    lines::write(out, b"n1 above n, refused by 3");
+    write_case(out, lengths(4, 8, 0) == 3);
 }
 
 // Sizes of 0.
-fn write_empty() {
+fn write_empty<P: Print>(out: &P) {
     let none = Slice {
         length: 0,
         number: 0.0,
     };
-    io::write_all(STDOUT_FILENO, b"no rows, n1 between, accepted");
-    write_case(answer(0, 3, 2, none, none, 0, 10) > 6);
-    io::write_all(STDOUT_FILENO, b"no columns, accepted");
-    write_case(answer(2, 0, 0, none, none, 2, 10) > 6);
-    io::write_all(
-        STDOUT_FILENO,
-        b"no columns, n1 of 1 and no rows, refused by 3",
-    );
-    write_case(answer(0, 0, 1, none, none, 0, 10) == 3);
+    lines::write(out, b"no rows, n1 between, accepted");
+    write_case(out, answer(0, 3, 2, none, none, 0, 10) > 6);
+    lines::write(out, b"no columns, accepted");
+    write_case(out, answer(2, 0, 0, none, none, 2, 10) > 6);
+    lines::write(out, b"no columns, n1 of 1 and no rows, refused by 3");
+    write_case(out, answer(0, 0, 1, none, none, 0, 10) == 3);
 }
 
 // The order, and numbers of both slices.
-fn write_order() {
+fn write_order<P: Print>(out: &P) {
     let infinity = 1.0 / 0.0;
     let none = Slice {
         length: 0,
         number: 0.0,
     };
-    io::write_all(
-        STDOUT_FILENO,
-        b"wrong slices and too many steps, refused by 1",
-    );
-    write_case(answer(2, 3, 1, none, none, 2, 1000001) == 1);
-    io::write_all(
-        STDOUT_FILENO,
-        b"wrong slices and 1,025 columns, refused by 2",
-    );
-    write_case(answer(2, LIMIT + 1, 1, none, none, 2, 10) == 2);
-    io::write_all(
-        STDOUT_FILENO,
-        b"wrong slices and a list for another m, refused by 3",
-    );
-    write_case(answer(2, 3, 1, none, none, 3, 10) == 3);
-    io::write_all(
-        STDOUT_FILENO,
-        b"an infinite number in the factory, refused by 5",
-    );
-    write_case(numbers(infinity, 1.0) == 5);
-    io::write_all(STDOUT_FILENO, b"a NaN in the lesson, refused by 5");
-    write_case(numbers(1.0, infinity - infinity) == 5);
+    lines::write(out, b"wrong slices and too many steps, refused by 1");
+    write_case(out, answer(2, 3, 1, none, none, 2, 1000001) == 1);
+    lines::write(out, b"wrong slices and 1,025 columns, refused by 2");
+    write_case(out, answer(2, LIMIT + 1, 1, none, none, 2, 10) == 2);
+    lines::write(out, b"wrong slices and a list for another m, refused by 3");
+    write_case(out, answer(2, 3, 1, none, none, 3, 10) == 3);
+    lines::write(out, b"an infinite number in the factory, refused by 5");
+    write_case(out, numbers(infinity, 1.0) == 5);
+    lines::write(out, b"a NaN in the lesson, refused by 5");
+    write_case(out, numbers(1.0, infinity - infinity) == 5);
 }
 
-fn write_columns() {
-    io::write_all(STDOUT_FILENO, b"column 0 is the factory's");
-    write_case(shown(1, 2, 4, 0) == 1.0);
-    io::write_all(STDOUT_FILENO, b"column 1 is the lesson's first");
-    write_case(shown(1, 2, 4, 1) == 3.0);
-    io::write_all(STDOUT_FILENO, b"column 2 is the lesson's second");
-    write_case(shown(1, 2, 4, 2) == 5.0);
-    io::write_all(STDOUT_FILENO, b"there is no column 3");
-    write_case(shown(1, 2, 4, 3) == 0.0);
-    io::write_all(STDOUT_FILENO, b"no column of slices of another length");
-    write_case(shown(1, 2, 3, 0) == 0.0);
-    io::write_all(STDOUT_FILENO, b"no column where n1 is above n");
-    write_case(shown(4, 2, 4, 0) == 0.0);
+fn write_columns<P: Print>(out: &P) {
+    lines::write(out, b"column 0 is the factory's");
+    write_case(out, shown(1, 2, 4, 0) == 1.0);
+    lines::write(out, b"column 1 is the lesson's first");
+    write_case(out, shown(1, 2, 4, 1) == 3.0);
+    lines::write(out, b"column 2 is the lesson's second");
+    write_case(out, shown(1, 2, 4, 2) == 5.0);
+    lines::write(out, b"there is no column 3");
+    write_case(out, shown(1, 2, 4, 3) == 0.0);
+    lines::write(out, b"no column of slices of another length");
+    write_case(out, shown(1, 2, 3, 0) == 0.0);
+    lines::write(out, b"no column where n1 is above n");
+    write_case(out, shown(4, 2, 4, 0) == 0.0);
 }
 
-fn main() {
-    write_lengths();
-    write_empty();
-    write_order();
-    write_columns();
+fn main(rt: HostRuntime) {
+    write_lengths(&rt);
+    write_empty(&rt);
+    write_order(&rt);
+    write_columns(&rt);
 }

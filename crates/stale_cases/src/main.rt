@@ -7,7 +7,6 @@ mod call;
 
 use alter::{counts, ended, lengths, state, tolerances, whole_numbers};
 use call::{Call, after_call, as_begun, begun};
-use libc::STDOUT_FILENO;
 use piece_rules::RunRecord;
 
 // The bound of the rotations after 3 steps: 64 sweeps a step, of twice the one pair of order 2.
@@ -42,12 +41,12 @@ fn one_if(holds: bool) -> u64 {
 }
 
 // The counts after a group's name.
-fn write_group(right: u64, all: u64) {
-    io::write_all(STDOUT_FILENO, b": ");
-    io::print_decimal(STDOUT_FILENO, right);
-    io::write_all(STDOUT_FILENO, b" of ");
-    io::print_decimal(STDOUT_FILENO, all);
-    io::write_all(STDOUT_FILENO, b"\n");
+fn write_group<P: Print>(out: &P, right: u64, all: u64) {
+    lines::write(out, b": ");
+    lines::write_decimal(out, right);
+    lines::write(out, b" of ");
+    lines::write_decimal(out, all);
+    lines::write(out, b"\n");
 }
 
 // ---- stale alone
@@ -126,15 +125,15 @@ fn stale_counts(r: RunRecord) -> u64 {
     )
 }
 
-fn write_stale(r: RunRecord) {
-    io::write_all(STDOUT_FILENO, b"stale alone, lengths");
-    write_group(stale_lengths(r), 6);
-    io::write_all(STDOUT_FILENO, b"stale alone, limits, period and edition");
-    write_group(stale_limits(r), 5);
-    io::write_all(STDOUT_FILENO, b"stale alone, tolerances");
-    write_group(stale_tolerances(r), 8);
-    io::write_all(STDOUT_FILENO, b"stale alone, counts and the end");
-    write_group(stale_counts(r), 11);
+fn write_stale<P: Print>(out: &P, r: RunRecord) {
+    lines::write(out, b"stale alone, lengths");
+    write_group(out, stale_lengths(r), 6);
+    lines::write(out, b"stale alone, limits, period and edition");
+    write_group(out, stale_limits(r), 5);
+    lines::write(out, b"stale alone, tolerances");
+    write_group(out, stale_tolerances(r), 8);
+    lines::write(out, b"stale alone, counts and the end");
+    write_group(out, stale_counts(r), 11);
 }
 
 // ---- in pairs
@@ -154,24 +153,21 @@ fn before_stale(record: RunRecord) -> u64 {
     sum(sum(one, sum(two, three)), sum(four, sum(five, six)))
 }
 
-fn write_pairs(r: RunRecord) {
-    io::write_all(STDOUT_FILENO, b"refused by 1 to 6, and ended");
-    write_group(before_stale(ended(r)), 6);
-    io::write_all(STDOUT_FILENO, b"refused by 1 to 6, and no step left");
-    write_group(before_stale(counts(r, 7, 0, 2, 1)), 6);
-    io::write_all(
-        STDOUT_FILENO,
-        b"refused by 1 to 6, and a NaN for a tolerance",
-    );
-    write_group(before_stale(tolerances(r, nan(), 0.0, 0.0)), 6);
-    io::write_all(STDOUT_FILENO, b"refused by 1 to 6, and another length");
-    write_group(before_stale(lengths(r, 0, 0, 0, 1, 0, 0)), 6);
-    io::write_all(STDOUT_FILENO, b"refused by 1 to 6, and too many rotations");
-    write_group(before_stale(counts(r, 3, BOUND + 1, 2, 1)), 6);
-    io::write_all(STDOUT_FILENO, b"refused by 1 to 6, and too many rows");
-    write_group(before_stale(counts(r, 3, 0, LARGEST, 1)), 6);
-    io::write_all(STDOUT_FILENO, b"refused by 1 to 6, and not stale");
-    write_group(before_stale(r), 6);
+fn write_pairs<P: Print>(out: &P, r: RunRecord) {
+    lines::write(out, b"refused by 1 to 6, and ended");
+    write_group(out, before_stale(ended(r)), 6);
+    lines::write(out, b"refused by 1 to 6, and no step left");
+    write_group(out, before_stale(counts(r, 7, 0, 2, 1)), 6);
+    lines::write(out, b"refused by 1 to 6, and a NaN for a tolerance");
+    write_group(out, before_stale(tolerances(r, nan(), 0.0, 0.0)), 6);
+    lines::write(out, b"refused by 1 to 6, and another length");
+    write_group(out, before_stale(lengths(r, 0, 0, 0, 1, 0, 0)), 6);
+    lines::write(out, b"refused by 1 to 6, and too many rotations");
+    write_group(out, before_stale(counts(r, 3, BOUND + 1, 2, 1)), 6);
+    lines::write(out, b"refused by 1 to 6, and too many rows");
+    write_group(out, before_stale(counts(r, 3, 0, LARGEST, 1)), 6);
+    lines::write(out, b"refused by 1 to 6, and not stale");
+    write_group(out, before_stale(r), 6);
 }
 
 // ---- not stale
@@ -208,9 +204,9 @@ fn not_stale(r: RunRecord) -> u64 {
     )
 }
 
-fn write_not_stale(r: RunRecord) {
-    io::write_all(STDOUT_FILENO, b"not stale");
-    write_group(not_stale(r), 9);
+fn write_not_stale<P: Print>(out: &P, r: RunRecord) {
+    lines::write(out, b"not stale");
+    write_group(out, not_stale(r), 9);
 }
 
 // ---- altered, still ends
@@ -268,11 +264,11 @@ fn ends_from_record(r: RunRecord) -> u64 {
     sum(taus, sum(norms, sum(rows, steps)))
 }
 
-fn write_ends(r: RunRecord) {
-    io::write_all(STDOUT_FILENO, b"altered buffers, ended by step 7");
-    write_group(ends_from_buffers(r), 11);
-    io::write_all(STDOUT_FILENO, b"altered record, ended by step 7");
-    write_group(ends_from_record(r), 20);
+fn write_ends<P: Print>(out: &P, r: RunRecord) {
+    lines::write(out, b"altered buffers, ended by step 7");
+    write_group(out, ends_from_buffers(r), 11);
+    lines::write(out, b"altered record, ended by step 7");
+    write_group(out, ends_from_record(r), 20);
 }
 
 // ---- a later piece of 0 steps
@@ -297,22 +293,22 @@ fn stands(r: RunRecord) -> u64 {
     sum(buffers, sum(tau, counted))
 }
 
-fn write_still(r: RunRecord) {
-    io::write_all(STDOUT_FILENO, b"0 steps, the same record and all kept");
-    write_group(stands(r), 7);
+fn write_still<P: Print>(out: &P, r: RunRecord) {
+    lines::write(out, b"0 steps, the same record and all kept");
+    write_group(out, stands(r), 7);
 }
 
-fn main() {
+fn main(rt: HostRuntime) {
     let record = begun();
-    io::write_all(STDOUT_FILENO, b"after 3 steps");
-    write_group(record.steps, 3);
-    io::write_all(STDOUT_FILENO, b"rotations above 0");
-    write_group(one_if(record.rotations > 0), 1);
-    io::write_all(STDOUT_FILENO, b"rows written and dropped");
-    write_group(sum(record.written, record.dropped), 3);
-    write_stale(record);
-    write_pairs(record);
-    write_not_stale(record);
-    write_ends(record);
-    write_still(record);
+    lines::write(&rt, b"after 3 steps");
+    write_group(&rt, record.steps, 3);
+    lines::write(&rt, b"rotations above 0");
+    write_group(&rt, one_if(record.rotations > 0), 1);
+    lines::write(&rt, b"rows written and dropped");
+    write_group(&rt, sum(record.written, record.dropped), 3);
+    write_stale(&rt, record);
+    write_pairs(&rt, record);
+    write_not_stale(&rt, record);
+    write_ends(&rt, record);
+    write_still(&rt, record);
 }

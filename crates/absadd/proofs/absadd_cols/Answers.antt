@@ -9,4 +9,4 @@ unfolding absadded_cols absadded
 returns-in-General c = rw c.in-General.is c.absadd_dense.ensures
 
 pub returns-in-SymPack : goal.returns-in-SymPack
-returns-in-SymPack c = rw c.in-Sym_pack.is c.absadd_packed.ensures
+returns-in-SymPack c = rw c.in-SymPack.is c.absadd_packed.ensures

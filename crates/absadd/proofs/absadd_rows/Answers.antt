@@ -10,4 +10,4 @@ returns-in-General c = rw c.in-General.is c.absadd_dense.ensures
 
 pub returns-in-SymPack : goal.returns-in-SymPack
 unfolding absadded_cols absadded_rows
-returns-in-SymPack c = rw c.in-Sym_pack.is c.absadd_packed.ensures
+returns-in-SymPack c = rw c.in-SymPack.is c.absadd_packed.ensures

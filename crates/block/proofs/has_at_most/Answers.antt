@@ -18,7 +18,7 @@ pub returns-in-SOC : goal.returns-in-SOC
 returns-in-SOC c = rw c.in-SOC.is
 
 pub returns-in-RotSOC : goal.returns-in-RotSOC
-returns-in-RotSOC c = rw c.in-Rot_soc.is
+returns-in-RotSOC c = rw c.in-RotSOC.is
 
 pub returns-in-PSD : goal.returns-in-PSD
 returns-in-PSD c = rw c.in-PSD.is (ap (λ (p : ℕ). leb p c.args.most) c.triangle.ensures ∙ counted_within _ c.args.most (omega (arith, c.requires)))

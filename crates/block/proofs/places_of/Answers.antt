@@ -28,7 +28,7 @@ pub returns-in-SOC : goal.returns-in-SOC
 returns-in-SOC c = rw (sayable_places_lem _ ((let most : places c.args.cone ≤ 8191 = leb-true _ _ (sym c.is_sayable.ensures ∙ not-false _ c.if-not-is_sayable.false-raw) in most)), c.in-SOC.is)
 
 pub returns-in-RotSOC : goal.returns-in-RotSOC
-returns-in-RotSOC c = rw (sayable_places_lem _ ((let most : places c.args.cone ≤ 8191 = leb-true _ _ (sym c.is_sayable.ensures ∙ not-false _ c.if-not-is_sayable.false-raw) in most)), c.in-Rot_soc.is)
+returns-in-RotSOC c = rw (sayable_places_lem _ ((let most : places c.args.cone ≤ 8191 = leb-true _ _ (sym c.is_sayable.ensures ∙ not-false _ c.if-not-is_sayable.false-raw) in most)), c.in-RotSOC.is)
 
 pub returns-in-PSD : goal.returns-in-PSD
 returns-in-PSD c = let m = (let most : places c.args.cone ≤ 8191 = leb-true _ _ (sym c.is_sayable.ensures ∙ not-false _ c.if-not-is_sayable.false-raw) in most) in

@@ -26,7 +26,7 @@ returns-in-SOC c = let fit = sym c.block_fits.ensures ∙ not-false _ c.if-not-b
 pub returns-in-RotSOC : goal.returns-in-RotSOC
 unfolding proj_block
 returns-in-RotSOC c = let fit = sym c.block_fits.ensures ∙ not-false _ c.if-not-block_fits.false-raw in
-    block_done fit (rw (c.in-Rot_soc.is, ruled_if_fits c.proj_rotsoc.ensures (within c.args.par c.args.cone c.args.x.now c.args.work.now fit)))
+    block_done fit (rw (c.in-RotSOC.is, ruled_if_fits c.proj_rotsoc.ensures (within c.args.par c.args.cone c.args.x.now c.args.work.now fit)))
 
 pub returns-in-PSD : goal.returns-in-PSD
 unfolding proj_block

@@ -22,24 +22,24 @@ overflow_add-end c =
     let is_block : read_word (get_or c.args.words.now c.loop-i.i 0) ≡ Block c.in-Block.block = sym c.read_word.ensures ∙ c.in-Block.is in
     let is_taken : c.loop-i.i < length c.args.words.now = search rules in
     let size_is : c.places_of.result ≡ places c.in-Block.block = c.places_of.ensures ∙ sayable_places_lem _ (word_most _ _ is_block) in
-    let is_end : c.loop-i.start + c.places_of.result ≤ length c.loop-i.xs = omega (arith, size_is, walk_places c.loop-i.invariant.0.walk is_taken _ is_block, c.loop-i.invariant.0.same) in
-    omega (arith, is_end)
+    let is-end : c.loop-i.start + c.places_of.result ≤ length c.loop-i.xs = omega (arith, size_is, walk_places c.loop-i.invariant.0.walk is_taken _ is_block, c.loop-i.invariant.0.same) in
+    omega (arith, is-end)
 
 pub offset_bounds-xs-start : goal.offset_bounds-xs-start
 offset_bounds-xs-start c =
     let is_block : read_word (get_or c.args.words.now c.loop-i.i 0) ≡ Block c.in-Block.block = sym c.read_word.ensures ∙ c.in-Block.is in
     let is_taken : c.loop-i.i < length c.args.words.now = search rules in
     let size_is : c.places_of.result ≡ places c.in-Block.block = c.places_of.ensures ∙ sayable_places_lem _ (word_most _ _ is_block) in
-    let is_end : c.loop-i.start + c.places_of.result ≤ length c.loop-i.xs = omega (arith, size_is, walk_places c.loop-i.invariant.0.walk is_taken _ is_block, c.loop-i.invariant.0.same) in
-    omega (arith, is_end)
+    let is-end : c.loop-i.start + c.places_of.result ≤ length c.loop-i.xs = omega (arith, size_is, walk_places c.loop-i.invariant.0.walk is_taken _ is_block, c.loop-i.invariant.0.same) in
+    omega (arith, is-end)
 
 pub slice_bounds-group_block-end : goal.slice_bounds-group_block-end
 slice_bounds-group_block-end c =
     let is_block : read_word (get_or c.args.words.now c.loop-i.i 0) ≡ Block c.in-Block.block = sym c.read_word.ensures ∙ c.in-Block.is in
     let is_taken : c.loop-i.i < length c.args.words.now = search rules in
     let size_is : c.places_of.result ≡ places c.in-Block.block = c.places_of.ensures ∙ sayable_places_lem _ (word_most _ _ is_block) in
-    let is_end : c.loop-i.start + c.places_of.result ≤ length c.loop-i.xs = omega (arith, size_is, walk_places c.loop-i.invariant.0.walk is_taken _ is_block, c.loop-i.invariant.0.same) in
-    is_end
+    let is-end : c.loop-i.start + c.places_of.result ≤ length c.loop-i.xs = omega (arith, size_is, walk_places c.loop-i.invariant.0.walk is_taken _ is_block, c.loop-i.invariant.0.same) in
+    is-end
 
 pub loop-i-preserved : goal.loop-i-preserved
 loop-i-preserved c =

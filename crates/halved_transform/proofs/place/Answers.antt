@@ -14,7 +14,7 @@ pub overflow_add-result : goal.overflow_add-result
 overflow_add-result c = omega (arith, product_small c.args.c c.in-General.rows.0 (omega (arith, rw c.in-General.is at c.requires.c_bound, rw c.in-General.is at c.requires.t_bound_2)) (omega (arith, rw c.in-General.is at c.requires.t_bound)), rw c.in-General.is at c.requires.r_bound, rw c.in-General.is at c.requires.t_bound)
 
 pub packed_place-requires : goal.packed_place-requires
-packed_place-requires c = record { r_lt_order = rw c.in-Sym_pack.is at c.requires.r_bound; c_lt_order = rw c.in-Sym_pack.is at c.requires.c_bound; order_le_limit = rw c.in-Sym_pack.is at c.requires.t_bound }
+packed_place-requires c = record { r_lt_order = rw c.in-SymPack.is at c.requires.r_bound; c_lt_order = rw c.in-SymPack.is at c.requires.c_bound; order_le_limit = rw c.in-SymPack.is at c.requires.t_bound }
 
 pub returns-in-General : goal.returns-in-General
 unfolding place
@@ -22,4 +22,4 @@ returns-in-General c = rw c.in-General.is
 
 pub returns-in-SymPack : goal.returns-in-SymPack
 unfolding place
-returns-in-SymPack c = rw c.in-Sym_pack.is c.packed_place.ensures
+returns-in-SymPack c = rw c.in-SymPack.is c.packed_place.ensures

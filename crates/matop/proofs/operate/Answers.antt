@@ -18,4 +18,4 @@ returns-in-General c = let some = sym c.is_empty.ensures ∙ c.if-is_empty.false
 
 pub returns-in-SymPack : goal.returns-in-SymPack
 returns-in-SymPack c = let some = sym c.is_empty.ensures ∙ c.if-is_empty.false in
-    rw c.in-Sym_pack.is (transforms_packed _ _ _ _ _ _ _ (rw c.in-Sym_pack.is at some) c.transform_sp.ensures)
+    rw c.in-SymPack.is (transforms_packed _ _ _ _ _ _ _ (rw c.in-SymPack.is at some) c.transform_sp.ensures)

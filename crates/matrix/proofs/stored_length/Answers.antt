@@ -12,4 +12,4 @@ pub returns-in-General : goal.returns-in-General
 returns-in-General c = rw c.in-General.is
 
 pub returns-in-SymPack : goal.returns-in-SymPack
-returns-in-SymPack c = rw c.in-Sym_pack.is (counted_small c.triangle.ensures (rw c.in-Sym_pack.is at c.requires.t_bound)).0
+returns-in-SymPack c = rw c.in-SymPack.is (counted_small c.triangle.ensures (rw c.in-SymPack.is at c.requires.t_bound)).0

@@ -19,11 +19,11 @@ whole-pattern b k h = omega arith
 -- by the digits q of g's pattern
 is_nearest : (g : Float) (m k b q : ℕ) → T (fits binary64 g) → b ≡ to_bits binary64 g → q ≡ b % 2 ^ 52 + 2 ^ 52 → b / 2 ^ 52 ≡ k + 1 → Digits m k → m * 2 ^ 52 ≤ q * (q + 1) → (q - 1) * (q - 1 + 1) < m * 2 ^ 52
     → g ≡ root_of_units binary64 (m * 2 ^ 52 * (2 ^ k * 2 ^ k))
-is_nearest g m k b q good is_b is_q place digits up down =
+is_nearest g m k b q good is_b is-q place digits up down =
     let n = m * 2 ^ 52 in
     let back : q - 1 + 1 ≡ q = omega arith in
     sym (of_bits-to_bits binary64 g good)
-    ∙ ap (of_bits binary64) (sym is_b ∙ sym (whole-pattern b k place) ∙ ap (λ (x : ℕ). k * 2 ^ 52 + x) (sym is_q))
+    ∙ ap (of_bits binary64) (sym is_b ∙ sym (whole-pattern b k place) ∙ ap (λ (x : ℕ). k * 2 ^ 52 + x) (sym is-q))
     ∙ sym (root-pattern q m k (omega arith) (omega arith) digits.place digits.least (omega (arith, digits.most)) (subst (λ (x : ℕ). x * x < n + x) back (above_last (q - 1) n down), at_most q n up))
 
 pub float_to_bits-b : goal.float_to_bits-b

@@ -111,6 +111,7 @@ enum Line {
     No,
 }
 
+#[tactic(auto, using(crate::proofs::Words::one_more))]
 fn word_of(bytes: &[u8], at: usize) -> Line
     requires { at + 17 ≤ length bytes.now }
 {

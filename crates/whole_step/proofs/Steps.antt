@@ -123,10 +123,10 @@ module _ (par : SolverParam) (shape : Shape) (c : List Float) (a : Slices) (b : 
   fits_done is = some_fits u (λ e. done_is_some (sym is ∙ e))
 
   -- a step that is done leaves what the criteria ask
-  pub judge_ready : {q : ℕ} → answer ≡ Done q → length x₁ ≡ length x → length rx₁ ≡ length rx → Fits shape c a b × (LikeX shape x₁ × LikeX shape rx₁)
+  pub judge_ready : {q : ℕ} → answer ≡ Done q → length x₁ ≡ length x → length rx₁ ≡ length rx → record { fits : Fits shape c a b; like_x : LikeX shape x₁; like_x_2 : LikeX shape rx₁ }
   judge_ready is kept_x kept_rx =
       let f = fits_ready par shape c a b words from (fits_done is) in
-      (f.operators, (record { is = kept_x ∙ f.x_like.is }, record { is = kept_rx ∙ f.rx_like.is }))
+      record { fits = f.operators; like_x = record { is = kept_x ∙ f.x_like.is }; like_x_2 = record { is = kept_rx ∙ f.rx_like.is } }
 
   pub whole_done : {q : ℕ} {found : Criteria} {rx₂ : List Float} → answer ≡ Done q → found ≡ (judged (embed_in par.«edition» shape c a b) par.eps_zero ns x₁ rx₁).criteria → rx₂ ≡ (judged (embed_in par.«edition» shape c a b) par.eps_zero ns x₁ rx₁).rx → Outcome (Judged found q) (state_of x₁ y₁ dp_tau dp_sigma rx₂ tx₁ cone₁)
   whole_done {q} {found} {rx₂} is h e =

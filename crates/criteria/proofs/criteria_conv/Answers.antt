@@ -34,9 +34,9 @@ module _ (k : Embed) (x : List Float) (scale : Float) (is : scale ≡ reciprocal
   unfolding gap
   gap_is gx gy hx hy = rw (hx, hy, is)
 
-conv_is : (k : Embed) (ns : Norms) (x rx p q : List Float) (np nq g : Float) → p ≡ primal_residual k x → q ≡ dual_residual k x (part k.m k.n rx) → np ≡ norm_by k.edition p → nq ≡ norm_by k.edition q → g ≡ gap k x → (rx' : List Float) → rx' ≡ p ++ q ++ drop (k.m + k.n) rx → record {says : Conv (np /ᶠ (one +ᶠ ns.b)) (nq /ᶠ (one +ᶠ ns.c)) g ≡ (converging k ns x rx).criteria; rx_left : rx' ≡ (converging k ns x rx).rx}
+conv_is : (k : Embed) (ns : Norms) (x rx p q : List Float) (np nq g : Float) → p ≡ primal_residual k x → q ≡ dual_residual k x (part k.m k.n rx) → np ≡ norm_by k.edition p → nq ≡ norm_by k.edition q → g ≡ gap k x → (rx' : List Float) → rx' ≡ p ++ q ++ drop (k.m + k.n) rx → record { says : Conv (np /ᶠ (one +ᶠ ns.b)) (nq /ᶠ (one +ᶠ ns.c)) g ≡ (converging k ns x rx).criteria; rx_left : rx' ≡ (converging k ns x rx).rx }
 unfolding converging
-conv_is k ns x rx p q np nq g hp hq hnp hnq hg rx' both = record {says = rw (hnp, hnq, hp, hq, hg); rx_left = both ∙ rw (hp, hq)}
+conv_is k ns x rx p q np nq g hp hq hnp hnq hg rx' both = record { says = rw (hnp, hnq, hp, hq, hg); rx_left = both ∙ rw (hp, hq) }
 
 pub primal_residual-pri-requires : goal.primal_residual-pri-requires
 primal_residual-pri-requires c = record { sized = c.requires.fits.matrix; stored = b_stored c.requires.fits; like_x = c.requires.like_x; p_len = search rules }

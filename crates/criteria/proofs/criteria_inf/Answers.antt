@@ -35,9 +35,9 @@ module _ (k : Embed) (x : List Float) where
   unfolding minus_b_y
   of_y = refl
 
-inf_is : (k : Embed) (eps : Float) (ns : Norms) (x rx p q : List Float) (u v : Float) → p ≡ ray k x → q ≡ dual_ray k x (part k.m k.n rx) → u ≡ ratio eps (norm_by k.edition p) ns.c (at (minus_c_x k x) 0) → v ≡ ratio eps (norm_by k.edition q) ns.b (at (minus_b_y k x) 0) → (rx' : List Float) → rx' ≡ p ++ q ++ drop (k.m + k.n) rx → record {says : Inf u v ≡ (diverging k eps ns x rx).criteria; rx_left : rx' ≡ (diverging k eps ns x rx).rx}
+inf_is : (k : Embed) (eps : Float) (ns : Norms) (x rx p q : List Float) (u v : Float) → p ≡ ray k x → q ≡ dual_ray k x (part k.m k.n rx) → u ≡ ratio eps (norm_by k.edition p) ns.c (at (minus_c_x k x) 0) → v ≡ ratio eps (norm_by k.edition q) ns.b (at (minus_b_y k x) 0) → (rx' : List Float) → rx' ≡ p ++ q ++ drop (k.m + k.n) rx → record { says : Inf u v ≡ (diverging k eps ns x rx).criteria; rx_left : rx' ≡ (diverging k eps ns x rx).rx }
 unfolding diverging
-inf_is k eps ns x rx p q u v hp hq hu hv rx' both = record {says = rw (hu, hv, hp, hq); rx_left = both ∙ rw (hp, hq)}
+inf_is k eps ns x rx p q u v hp hq hu hv rx' both = record { says = rw (hu, hv, hp, hq); rx_left = both ∙ rw (hp, hq) }
 
 pub ray-pri-requires : goal.ray-pri-requires
 ray-pri-requires c = record { sized = c.requires.fits.matrix; like_x = c.requires.like_x; p_len = search rules }

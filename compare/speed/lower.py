@@ -24,19 +24,11 @@ def without_program(text):
 
 
 def face(kind, function, name, parameters):
-    outer, inner, body = [], [], ""
-    for i, parameter in enumerate(parameters):
-        type_ = parameter.split()[0]
-        if type_ == "ptr":
-            outer += [f"ptr %p{i}", f"i64 %l{i}"]
-            body += f"  %s{i} = alloca [16 x i8], align 8\n  store ptr %p{i}, ptr %s{i}, align 8\n"
-            body += f"  %q{i} = getelementptr i8, ptr %s{i}, i64 8\n  store i64 %l{i}, ptr %q{i}, align 8\n"
-            inner.append(f"ptr noundef %s{i}")
-        else:
-            outer.append(f"{type_} %p{i}")
-            inner.append(f"{type_} noundef %p{i}")
-    call = f'  %r = call noundef {kind} @"{function}"({", ".join(inner)})\n  ret {kind} %r\n'
-    return f'define {kind} @{name}({", ".join(outer)}) #0 {{\n{body}{call}}}\n'
+    kinds = [parameter.split()[0] for parameter in parameters]
+    outer = ", ".join(f"{kind_} %p{i}" for i, kind_ in enumerate(kinds))
+    inner = ", ".join(f"{kind_} noundef %p{i}" for i, kind_ in enumerate(kinds))
+    call = f'  %r = call noundef {kind} @"{function}"({inner})\n  ret {kind} %r\n'
+    return f'define {kind} @{name}({outer}) #0 {{\n{call}}}\n'
 
 
 def faces(text):

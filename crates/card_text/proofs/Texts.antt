@@ -57,10 +57,10 @@ hex_places least n k few small below_all = below 16 least 16 n k (omega arith) (
 pub decimal_put : (n at count r : ℕ) (before after ds : List ℕ) → count ≤ 20 → count ≡ length (take count ds) → IsDigitCount 10 1 n count → take count ds ≡ last_digits 10 count n
     → r ≡ at + length (take count ds)
     → Grown at before (take count ds) r after
-    → (at ≤ r) × ((r ≤ at + 20) × (IsDigitCount 10 1 n (r - at) × Grown at before (last_digits 10 (r - at) n) r after))
+    → record { lower_bound : at ≤ r; upper_bound : r ≤ at + 20; digit_count : IsDigitCount 10 1 n (r - at); grown : Grown at before (last_digits 10 (r - at) n) r after }
 decimal_put n at count r before after ds within as_many few spelled end grown =
     let e : r - at ≡ count = omega arith in
-    (omega arith, (omega arith, (rw e few, rw (e, ← spelled) grown)))
+    record { lower_bound = omega arith; upper_bound = omega arith; digit_count = rw e few; grown = rw (e, ← spelled) grown }
 
 -- ---- a number on a line
 
@@ -69,11 +69,11 @@ pub number_put : (x : Float) (at count middle r : ℕ) (before between after ds 
     → Grown at before (take count ds) middle between
     → r ≡ middle + 1
     → Grown middle between newline r after
-    → (r ≡ at + 17) × Grown at before (number_line x) r after
+    → record { value : r ≡ at + 17; grown : Grown at before (number_line x) r after }
 number_put x at count middle r before between after ds sixteen as_many spelled end grown last ended =
     let word : take count ds ≡ last_digits 16 16 (to_bits binary64 x) = spelled ∙ ap (λ (k : ℕ). last_digits 16 k (to_bits binary64 x)) sixteen in
     let first : Grown at before (last_digits 16 16 (to_bits binary64 x)) middle between = rw word at grown in
-    (omega arith, grown_on at middle r before between after (last_digits 16 16 (to_bits binary64 x)) newline (omega arith) first ended)
+    record { value = omega arith; grown = grown_on at middle r before between after (last_digits 16 16 (to_bits binary64 x)) newline (omega arith) first ended }
 
 -- ---- numbers, each on a line
 

@@ -71,6 +71,6 @@ pub line_too_short : (told : ToldLogged) (before : List ℕ) → length before <
 line_too_short told before h = record { inside = omega arith; too_short = λ _. (refl, refl); written = λ g. absurd (omega arith) }
 
 pub line_written : (told : ToldLogged) (before : List ℕ) (count : ℕ) (after : List ℕ) → text_room ≤ length before → length after ≡ length before → count ≤ text_room → Says (LoggedLine told) before count after
-    → IsPrefixLen count after × FirstLineOutcome told before count after
+    → record { prefix_len : IsPrefixLen count after; first_line_outcome : FirstLineOutcome told before count after }
 line_written told before count after h kept few t =
-    (counts count after few (omega arith), record { inside = omega arith; too_short = λ l. absurd (omega arith); written = λ _. t })
+    record { prefix_len = counts count after few (omega arith); first_line_outcome = record { inside = omega arith; too_short = λ l. absurd (omega arith); written = λ _. t } }

@@ -35,6 +35,7 @@ fn rest_of(bytes: &[u8], n: usize, m: usize) -> CardRead
 }
 
 // What a card says beside its lists, or its first fault.
+#[tactic(auto, using(crate::proofs::Front::no_n_answered, crate::proofs::Front::no_m_answered))]
 fn reading_of(bytes: &[u8]) -> CardRead
     ensures { result ≡ answer_of (read_card bytes.now) }
 {

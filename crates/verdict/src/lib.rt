@@ -46,6 +46,7 @@ pub fn of_conv(par: SolverParam, k: u64, pri: f64, dual: f64, gap: f64) -> Verdi
 }
 
 // What the two others say at step k.
+#[tactic(auto, unfolding(rules::specs::Run::verdict))]
 pub fn of_inf(par: SolverParam, k: u64, unbdd: f64, infeas: f64) -> Verdict
     ensures { result ≡ rules.verdict par k none (Inf unbdd infeas) }
 {

@@ -7,16 +7,16 @@ use Rattle.checks.proofs.check_plain.Goals as goal
 
 pub returns-then-cone_is_bad : goal.returns-then-cone_is_bad
 returns-then-cone_is_bad c = plain_answers c.args.m c.args.n c.args.c.now (joined (slices c.args.a1.now c.args.a2.now)) c.args.b.now c.args.words.now c.args.work c.args.cone_work
-    (here (sym c.is_bad_cone-cone_is_bad.ensures ∙ c.if-cone_is_bad.true))
+    (here (cc))
 
 pub returns-then-number_is_not_finite : goal.returns-then-number_is_not_finite
 returns-then-number_is_not_finite c = plain_answers c.args.m c.args.n c.args.c.now (joined (slices c.args.a1.now c.args.a2.now)) c.args.b.now c.args.words.now c.args.work c.args.cone_work
-    (past (sym c.is_bad_cone-cone_is_bad.ensures ∙ c.if-cone_is_bad.false) (here (sym c.not_finite-number_is_not_finite.ensures ∙ c.if-number_is_not_finite.true)))
+    (past (cc) (here (cc)))
 
 pub returns-then-work_shortage : goal.returns-then-work_shortage
 returns-then-work_shortage c = plain_answers c.args.m c.args.n c.args.c.now (joined (slices c.args.a1.now c.args.a2.now)) c.args.b.now c.args.words.now c.args.work c.args.cone_work
-    (past (sym c.is_bad_cone-cone_is_bad.ensures ∙ c.if-cone_is_bad.false) (past (sym c.not_finite-number_is_not_finite.ensures ∙ c.if-number_is_not_finite.false) (here (sym c.work_shortage.ensures ∙ c.if-work_shortage.true))))
+    (past (cc) (past (cc) (here (sym c.work_shortage.ensures ∙ c.if-work_shortage.true))))
 
 pub returns : goal.returns
 returns c = plain_answers c.args.m c.args.n c.args.c.now (joined (slices c.args.a1.now c.args.a2.now)) c.args.b.now c.args.words.now c.args.work c.args.cone_work
-    (past (sym c.is_bad_cone-cone_is_bad.ensures ∙ c.if-cone_is_bad.false) (past (sym c.not_finite-number_is_not_finite.ensures ∙ c.if-number_is_not_finite.false) (past (sym c.work_shortage.ensures ∙ c.if-work_shortage.false) none_left)))
+    (past (cc) (past (cc) (past (sym c.work_shortage.ensures ∙ c.if-work_shortage.false) none_left)))

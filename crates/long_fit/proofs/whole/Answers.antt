@@ -2,12 +2,12 @@ use Rattle.std.proofs.Common.{T, sym, subst}
 use lib.Ieee.{of_bits, neg}
 use Rattle.long_fit.proofs.whole.Goals as goal
 
-pub truncating_f64_to_u64_requires_clause_lower_bound :
+pub truncating_f64_to_u64-requires-clause-lower_bound :
     goal.truncating_f64_to_u64-requires-clause-lower_bound
 unfolding of_bits neg
-truncating_f64_to_u64_requires_clause_lower_bound c = subst T (sym c.if-x.true) tt
+truncating_f64_to_u64-requires-clause-lower_bound c = subst T (sym c.if-x.true) tt
 
-pub truncating_f64_to_u64_requires_clause_upper_bound :
+pub truncating_f64_to_u64-requires-clause-upper_bound :
     goal.truncating_f64_to_u64-requires-clause-upper_bound
 unfolding of_bits
-truncating_f64_to_u64_requires_clause_upper_bound c = subst T (sym c.if-x-2.true) tt
+truncating_f64_to_u64-requires-clause-upper_bound c = subst T (sym c.if-x-2.true) tt

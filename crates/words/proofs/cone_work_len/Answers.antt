@@ -13,15 +13,15 @@ use Rattle.rules.proofs.ConeProduct.{work_block, work_end}
 use mathlib.Core.Logic.{⊎_elim}
 use Rattle.block.proofs.Sayable.{sayable_work_lem}
 use Rattle.words.proofs.cone_work_len.Goals as goal
-use Rattle.words.proofs.cone_work_len.Goals.{in-Block+then-most-len, in-Block+else-most-len, in_default}
 
 pub loop-i-preserved : goal.loop-i-preserved
 loop-i-preserved c = (
-  elim c.match-read_word.branch [
-    | in-Block+then-most-len w ↦ let e = sym c.read_word.ensures ∙ w.in-Block.is in omega (arith, w.most-is, w.if-most-len, w.block_work-len.ensures ∙ sayable_work_lem _ (word_most _ _ e), work_block c.args.words.now c.loop-i.i (search rules) _ e)
-    | in-Block+else-most-len w ↦ let e = sym c.read_word.ensures ∙ w.in-Block.is in omega (arith, w.most-is, w.if-most-len, w.block_work-len.ensures ∙ sayable_work_lem _ (word_most _ _ e), work_block c.args.words.now c.loop-i.i (search rules) _ e)
-    | in_default w ↦ omega (arith, w.most-is, ap cone_work (blocks_bad c.args.words.now c.loop-i.i (search rules) (sym c.read_word.ensures ∙ w.in_default.is)))
-  ],
+  ⊎_elim
+  (λ w. let e = sym c.read_word.ensures ∙ w.in-Block.is in omega (arith, w.block_work-len.ensures ∙ sayable_work_lem _ (word_most _ _ e), work_block c.args.words.now c.loop-i.i (search rules) _ e))
+  (⊎_elim
+  (λ w. let e = sym c.read_word.ensures ∙ w.in-Block.is in omega (arith, w.block_work-len.ensures ∙ sayable_work_lem _ (word_most _ _ e), work_block c.args.words.now c.loop-i.i (search rules) _ e))
+  (λ w. omega (arith, ap cone_work (blocks_bad c.args.words.now c.loop-i.i (search rules) (sym c.read_word.ensures ∙ w.in_default.is)))))
+  c.match-read_word.branch-raw,
   search rules,
   search rules,
 )

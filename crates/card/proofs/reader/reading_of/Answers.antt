@@ -2,7 +2,7 @@
 use borrow.Author.Rules.{rules}
 use native.Mathlib.Omega.{arith}
 use mathlib.Core.Path.{sym, ◌∙◌}
-use Rattle.card.proofs.Front.{no_edition, wrong_edition, no_n, large_n, no_m, large_m, sizes_read}
+use Rattle.card.proofs.Front.{no_edition, wrong_edition, large_n, large_m, sizes_read}
 use Rattle.card.proofs.reader.reading_of.Goals as goal
 
 pub returns-then-bytes-lt1 : goal.returns-then-bytes-lt1
@@ -11,14 +11,8 @@ returns-then-bytes-lt1 c = rw (no_edition c.args.bytes.now (omega arith))
 pub returns-then-field-ne1 : goal.returns-then-field-ne1
 returns-then-field-ne1 c = rw (wrong_edition c.args.bytes.now (omega arith) (λ e. c.if-field-ne1.true (c.field.ensures.value ∙ e)))
 
-pub returns-then-bytes-lt2 : goal.returns-then-bytes-lt2
-returns-then-bytes-lt2 c = rw (no_n c.args.bytes.now (sym c.field.ensures.value ∙ c.if-field-ne1.false) (omega arith) (omega arith))
-
 pub returns-then-n-gt32 : goal.returns-then-n-gt32
 returns-then-n-gt32 c = rw (large_n c.args.bytes.now (sym c.field.ensures.value ∙ c.if-field-ne1.false) (omega arith) (omega (arith, c.field-n.ensures.value)))
-
-pub returns-then-bytes-lt3 : goal.returns-then-bytes-lt3
-returns-then-bytes-lt3 c = rw (no_m c.args.bytes.now (sym c.field.ensures.value ∙ c.if-field-ne1.false) (omega (arith, c.field-n.ensures.value)) (omega arith) (omega arith))
 
 pub returns-then-m-gt32 : goal.returns-then-m-gt32
 returns-then-m-gt32 c = rw (large_m c.args.bytes.now (sym c.field.ensures.value ∙ c.if-field-ne1.false) (omega (arith, c.field-n.ensures.value)) (omega arith) (omega (arith, c.field-m.ensures.value)))

@@ -30,6 +30,7 @@ pub fn bit(bytes: &[u8], at: usize) -> u64
 }
 
 // The bit at a place of a number that is written in so many bits, 0 past its end.
+#[tactic(auto, using(crate::proofs::Bits::bit_of, crate::proofs::Bits::bit_of_high, crate::proofs::Bits::bit_of_past))]
 pub fn bit_of(v: u64, width: usize, k: usize) -> u64
     ensures value { result ≡ get_or (bits_of width v) k 0 }
     ensures bound { result < 2 }

@@ -63,6 +63,7 @@ fn put_told(text: &mut [u8], told: Told, work: &[f64]) -> usize
 
 // Puts what the program writes for a card at the start of a buffer, and answers how many bytes that is.
 // Where the buffer may be too short, it answers 0 and changes nothing.
+#[tactic(auto, using(crate::proofs::Whole::text_too_short))]
 pub fn answer_text(card: &[u8], text: &mut [u8]) -> usize
     ensures prefix_len { IsPrefixLen result text.new }
     ensures text_outcome { TextOutcome card.now text.old result text.new }

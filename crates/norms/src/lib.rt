@@ -8,6 +8,7 @@ ghost use Rattle.rules.specs.Vectors.{norm_by};
 ghost use Rattle.norms.specs.Squares.{square_of, norm_or_scaled};
 
 // The root of the sum of squares, added up by the edition. Where that sum is infinite though each number is finite, it is taken of smaller numbers and made larger again.
+#[tactic(auto, using(crate::proofs::ByEdition::norm_from_the_left))]
 pub fn norm_by(edition: u32, x: &[f64]) -> f64
     ensures { result ≡ norm_by edition x.now }
 {

@@ -96,6 +96,7 @@ fn proj_rotated(edition: u32, x: &mut [f64])
 }
 
 // The rotated second-order cone. Where there are more places than a block may have, it answers no and changes nothing.
+#[tactic(auto, using(rules::proofs::Outcome::refused))]
 pub fn proj_rotsoc(edition: u32, x: &mut [f64]) -> bool
     ensures { Outcome (leb (length x.old) limit) (proj_rot_soc edition x.old) x.old result x.new }
 {

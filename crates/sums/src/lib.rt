@@ -13,7 +13,8 @@ pub fn norm(x: &[f64]) -> f64
         sum = sum + x[i] * x[i];
     }
     if sum == 1.0 / 0.0 {
-        if finite::all_finite(x) {
+        let all_are = finite::all_finite(x);
+        if all_are {
             return scaled_norm(x);
         }
     }

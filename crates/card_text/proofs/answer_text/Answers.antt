@@ -2,11 +2,8 @@
 use borrow.Author.Rules.{rules}
 use native.Mathlib.Omega.{arith}
 use mathlib.Core.Path.{refl}
-use Rattle.card_text.proofs.Whole.{counts, columns_within, rows_within, text_too_short, text_written}
+use Rattle.card_text.proofs.Whole.{counts, columns_within, rows_within, text_written}
 use Rattle.card_text.proofs.answer_text.Goals as goal
-
-pub returns-then-text-lt-TEXT_ROOM : goal.returns-then-text-lt-TEXT_ROOM
-returns-then-text-lt-TEXT_ROOM c = record { prefix_len = (omega arith, refl); text_outcome = text_too_short c.args.card.now c.args.text.now (omega arith) }
 
 pub put_told-requires : goal.put_told-requires
 put_told-requires c = record { in_bounds = omega arith; told_bound = columns_within c.args.card.now _ _ c.answer-told.ensures.answered; told_bound_2 = rows_within c.args.card.now _ _ c.answer-told.ensures.answered }

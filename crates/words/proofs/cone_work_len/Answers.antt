@@ -17,11 +17,11 @@ use Rattle.words.proofs.cone_work_len.Goals as goal
 pub loop-i-preserved : goal.loop-i-preserved
 loop-i-preserved c = (
   ⊎_elim
-  (λ w. let e = sym c.read_word.ensures ∙ w.in-Block.is in omega (arith, w.block_work-len.ensures ∙ sayable_work_lem _ (word_most _ _ e), work_block c.args.words.now c.loop-i.i (search rules) _ e))
-  (⊎_elim
-  (λ w. let e = sym c.read_word.ensures ∙ w.in-Block.is in omega (arith, w.block_work-len.ensures ∙ sayable_work_lem _ (word_most _ _ e), work_block c.args.words.now c.loop-i.i (search rules) _ e))
-  (λ w. omega (arith, ap cone_work (blocks_bad c.args.words.now c.loop-i.i (search rules) (sym c.read_word.ensures ∙ w.in_default.is)))))
-  c.match-read_word.branch-raw,
+      (λ w. let e = sym c.read_word.ensures ∙ w.in-Block.is in omega (arith, w.block_work-len.ensures ∙ sayable_work_lem _ (word_most _ _ e), work_block c.args.words.now c.loop-i.i (search rules) _ e))
+      (⊎_elim
+      (λ w. let e = sym c.read_word.ensures ∙ w.in-Block.is in omega (arith, w.block_work-len.ensures ∙ sayable_work_lem _ (word_most _ _ e), work_block c.args.words.now c.loop-i.i (search rules) _ e))
+      (λ w. omega (arith, ap cone_work (blocks_bad c.args.words.now c.loop-i.i (search rules) (sym c.read_word.ensures ∙ w.in_default.is)))))
+      c.match-read_word.branch-raw,
   search rules,
   search rules,
 )

@@ -2,10 +2,9 @@
 // compare/README.md says. What is written must be the original's answers, one after another.
 #![tactic(auto)]
 
-// Reads a card and answers it: whether there was a whole one, and all of the answer was written.
-
 use std::io::Read;
 
+// Reads a card and answers it: whether there was a whole one, and all of the answer was written.
 fn answer_one<R: Read, P: Print>(input: &mut R, out: &P) -> bool {
     let mut head = [0u8; 8];
     if !lines::read(input, &mut head, 8) {

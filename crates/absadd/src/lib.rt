@@ -46,8 +46,8 @@ fn absadd_dense(transpose: bool, rows: Rows, cols: Cols, mat: &[f64], y: &mut [f
     if y.len() != matrix::width(transpose, t) {
         return false;
     }
-    for k in 0..y.len() {
-        y[k] = line_sum(transpose, rows, cols, mat, k) + y[k];
+    for (k, v) in y.iter_mut().enumerate() {
+        *v = line_sum(transpose, rows, cols, mat, k) + *v;
     }
     true
 }
@@ -83,6 +83,7 @@ fn absadd_packed(rows: Rows, mat: &[f64], y: &mut [f64]) -> bool
     if y.len() != n {
         return false;
     }
+    // (d) c is the column's number
     for c in 0..n {
         add_column(mat, c, y);
     }
@@ -100,7 +101,8 @@ fn add_column(mat: &[f64], c: usize, y: &mut [f64])
     let start = matrix::triangle(c);
     let end = start + c + 1;
     y[c] = sums::abssum(&mat[start..end], 1) + y[c];
+    // (d) row and column make the place: an index in any form
     for i in 0..c {
-        y[i] = y[i] + float::magnitude(mat[start + i]);
+        y[i] += float::magnitude(mat[start + i]);
     }
 }

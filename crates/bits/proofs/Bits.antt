@@ -62,3 +62,6 @@ byte_bit bytes at h =
     let e : 8 * (at / 8) + at % 8 ≡ at = omega arith in
     let l : get_or (bits_of_all 8 bytes) (8 * (at / 8) + at % 8) 0 ≡ get_or bytes (at / 8) 0 / 2 ^ (7 - at % 8) % 2 = all_bit 8 bytes (at / 8) (at % 8) h (omega arith) in
     rw (bytes_are_fields bytes) (ap (λ (k : ℕ). get_or (bits_of_all 8 bytes) k 0) (sym e) ∙ l)
+
+pub bit_past : (bytes : List ℕ) (at : ℕ) → length bytes ≤ at / 8 → get_or (bits_of_bytes bytes) at 0 ≡ 0
+bit_past bytes at h = get_or-eq_default (bits_of_bytes bytes) 0 {n = at} (rw (bits_length bytes) (omega arith))

@@ -6,7 +6,8 @@ use native.Mathlib.Omega.{arith}
 use mathlib.Core.Path.{◌≡◌, refl, sym, ap}
 use mathlib.Core.List.{List, [], ◌∷◌, ◌++◌}
 use lib.ListN.{length, take, drop, get_or, set, length-drop}
-use lib.Seq.{take-suc, drop-cons, get_or-drop, append_snoc, set_at}
+use Rattle.std.proofs.Common.{append-nil}
+use lib.Seq.{drop-length, take-suc, drop-cons, get_or-drop, append_snoc, set_at}
 use Rattle.card.specs.Card.{value_from}
 use Rattle.card.specs.Fields.{field_at, fields_at}
 
@@ -60,3 +61,6 @@ pub filled : (k at w : ℕ) (bits l ws : List ℕ) (v : ℕ) → ws ≡ fields_a
     → set ws k v ≡ fields_at (k + 1) at w bits ++ drop (k + 1) l
 filled k at w bits l ws v e h f =
     rw (e, f, add-one k, fields_more k at w bits) (stored (fields_at k at w bits) l k (field_at (at + w * k) w bits) (fields_length k at w bits) h)
+
+pub all_filled : (k at w : ℕ) (bits l ws : List ℕ) → ws ≡ fields_at k at w bits ++ drop k l → k ≡ length l → ws ≡ fields_at (length l) at w bits
+all_filled k at w bits l ws e h = rw (e, h, drop-length l) (append-nil (fields_at (length l) at w bits))

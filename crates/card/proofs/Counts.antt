@@ -7,6 +7,8 @@ use mathlib.Core.Bool.{Bool, true, false}
 use borrow.Author.Tests.{le-leb, lt-leb}
 use Rattle.rules.specs.declared.Rows.{Rows}
 use Rattle.rules.specs.declared.Cols.{Cols}
+use Rattle.rules.specs.declared.Storage.{Storage}
+use Rattle.rules.specs.Refusals.{is_packed}
 use Rattle.card.specs.Card.{numbers_of_a, number_count}
 use Rattle.card.specs.Outcome.{stored_of}
 
@@ -22,15 +24,15 @@ number_most false n m g h = omega (arith, product_most m n h g)
 
 -- ---- how many numbers A has
 
-module _ (packed : Bool) (rows : Rows) (cols : Cols) where
-  pub stored_large_n : 32 < cols.0 → stored_of packed rows cols ≡ 0
+module _ (storage : Storage) (rows : Rows) (cols : Cols) where
+  pub stored_large_n : 32 < cols.0 → stored_of storage rows cols ≡ 0
   unfolding stored_of
   stored_large_n h = rw (lt-leb cols.0 32 h)
 
-  pub stored_large_m : cols.0 ≤ 32 → 32 < rows.0 → stored_of packed rows cols ≡ 0
+  pub stored_large_m : cols.0 ≤ 32 → 32 < rows.0 → stored_of storage rows cols ≡ 0
   unfolding stored_of
   stored_large_m g h = rw (le-leb cols.0 32 g, lt-leb rows.0 32 h)
 
-  pub stored_is : cols.0 ≤ 32 → rows.0 ≤ 32 → stored_of packed rows cols ≡ numbers_of_a packed cols.0 rows.0
+  pub stored_is : cols.0 ≤ 32 → rows.0 ≤ 32 → stored_of storage rows cols ≡ numbers_of_a (is_packed storage) cols.0 rows.0
   unfolding stored_of
   stored_is g h = rw (le-leb cols.0 32 g, le-leb rows.0 32 h)

@@ -9,6 +9,7 @@ use lib.Dec.{leb, eqb}
 use lib.ListN.{length, drop, length-drop}
 use lib.Seq.{drop-drop}
 use borrow.Author.Tests.{leb-true, leb-false, le-leb, lt-leb}
+use Rattle.card.specs.declared.Fault.TheVariants.{Short, Edition, Large}
 use Rattle.card.specs.Card.{bits_of_bytes, Reading, fault, number_count, taken, taken_all, judged, closed, read_bits, read_card}
 use Rattle.card.specs.Fields.{field_at, fields_at, rest_at}
 
@@ -22,7 +23,7 @@ same_test p q r s f g = go (leb p q) refl
     go false e = e ∙ sym (lt-leb r s (g (leb-false p q e)))
 
 pub taken_at : (a w : ℕ) (bits : List ℕ) (next : ℕ → List ℕ → Reading) → 0 < w
-    → taken w (drop a bits) next ≡ cond (leb (a + w) (length bits)) (next (field_at a w bits) (drop (a + w) bits)) (fault 1)
+    → taken w (drop a bits) next ≡ cond (leb (a + w) (length bits)) (next (field_at a w bits) (drop (a + w) bits)) (fault Short)
 unfolding taken field_at
 taken_at a w bits next pos =
     let t : leb w (length (drop a bits)) ≡ leb (a + w) (length bits) = rw (length-drop a bits) (same_test w (length bits - a) (a + w) (length bits) (λ h. omega arith) (λ h. omega arith)) in
@@ -30,17 +31,17 @@ taken_at a w bits next pos =
 
 -- the same after a test that the place is inside
 pub taken_inside : (a w : ℕ) (bits : List ℕ) (next : ℕ → List ℕ → Reading) → 0 < w
-    → cond (leb a (length bits)) (taken w (drop a bits) next) (fault 1) ≡ cond (leb (a + w) (length bits)) (next (field_at a w bits) (drop (a + w) bits)) (fault 1)
+    → cond (leb a (length bits)) (taken w (drop a bits) next) (fault Short) ≡ cond (leb (a + w) (length bits)) (next (field_at a w bits) (drop (a + w) bits)) (fault Short)
 taken_inside a w bits next pos = go (leb a (length bits)) refl
   where
-    go : (t : Bool) → leb a (length bits) ≡ t → cond (leb a (length bits)) (taken w (drop a bits) next) (fault 1) ≡ cond (leb (a + w) (length bits)) (next (field_at a w bits) (drop (a + w) bits)) (fault 1)
+    go : (t : Bool) → leb a (length bits) ≡ t → cond (leb a (length bits)) (taken w (drop a bits) next) (fault Short) ≡ cond (leb (a + w) (length bits)) (next (field_at a w bits) (drop (a + w) bits)) (fault Short)
     go true e = rw e (taken_at a w bits next pos)
     go false e =
         let h : length bits < a = leb-false a (length bits) e in
         rw (e, lt-leb (a + w) (length bits) (omega arith))
 
 pub all_inside : (a k w : ℕ) (bits : List ℕ) (next : List ℕ → List ℕ → Reading) → 0 < w
-    → cond (leb a (length bits)) (taken_all k w (drop a bits) next) (fault 1) ≡ cond (leb (a + w * k) (length bits)) (next (fields_at k a w bits) (drop (a + w * k) bits)) (fault 1)
+    → cond (leb a (length bits)) (taken_all k w (drop a bits) next) (fault Short) ≡ cond (leb (a + w * k) (length bits)) (next (fields_at k a w bits) (drop (a + w * k) bits)) (fault Short)
 unfolding taken_all fields_at
 all_inside a zero w bits next pos =
     let e : a + w * 0 ≡ a = omega (arith, mul-zero w) in
@@ -70,16 +71,16 @@ abbrev pub after_count : ℕ → ℕ → ℕ → ℕ → List ℕ → Reading
 after_count flag n m count bits = taken_all count 16 bits (after_words flag n m)
 
 abbrev pub after_m : ℕ → ℕ → ℕ → List ℕ → Reading
-after_m flag n m bits = judged (leb m 32) 3 (taken 6 bits (after_count flag n m))
+after_m flag n m bits = judged (leb m 32) Large (taken 6 bits (after_count flag n m))
 
 abbrev pub after_n : ℕ → ℕ → List ℕ → Reading
-after_n flag n bits = judged (leb n 32) 3 (taken 6 bits (after_m flag n))
+after_n flag n bits = judged (leb n 32) Large (taken 6 bits (after_m flag n))
 
 abbrev pub after_flag : ℕ → List ℕ → Reading
 after_flag flag bits = taken 6 bits (after_n flag)
 
 abbrev pub after_edition : ℕ → List ℕ → Reading
-after_edition edition bits = judged (eqb edition 1) 2 (taken 1 bits after_flag)
+after_edition edition bits = judged (eqb edition 1) Edition (taken 1 bits after_flag)
 
 pub read_from_front : (bits : List ℕ) → read_bits bits ≡ taken 4 bits after_edition
 unfolding read_bits
@@ -107,14 +108,14 @@ by_places bits =
     (cond (leb 11 (length bits))
     (cond (leb (field_at 5 6 bits) 32)
     (cond (leb 17 (length bits))
-    (cond (leb (field_at 11 6 bits) 32) (rest_at (field_at 5 6 bits) (field_at 11 6 bits) bits) (fault 3))
-    (fault 1))
-    (fault 3))
-    (fault 1))
-    (fault 2))
-    (fault 1)
+    (cond (leb (field_at 11 6 bits) 32) (rest_at (field_at 5 6 bits) (field_at 11 6 bits) bits) (fault Large))
+    (fault Short))
+    (fault Large))
+    (fault Short))
+    (fault Edition))
+    (fault Short)
 
-flag_and_n : (bits : List ℕ) → taken 1 (drop 4 bits) after_flag ≡ cond (leb 11 (length bits)) (after_n (field_at 4 1 bits) (field_at 5 6 bits) (drop 11 bits)) (fault 1)
+flag_and_n : (bits : List ℕ) → taken 1 (drop 4 bits) after_flag ≡ cond (leb 11 (length bits)) (after_n (field_at 4 1 bits) (field_at 5 6 bits) (drop 11 bits)) (fault Short)
 flag_and_n bits = taken_at 4 1 bits after_flag (omega arith) ∙ taken_inside 5 6 bits (after_n (field_at 4 1 bits)) (omega arith)
 
 pub reads_by_places : (bits : List ℕ) → read_bits bits ≡ by_places bits

@@ -1,5 +1,7 @@
 -- Document 02, (i), "A problem file for the bench": one card, and what it says.
-use Rattle.std.specs.Prelude.{ℕ, zero, suc, ◌+◌, ◌*◌, ◌/◌, ◌%◌, min, Bool, true, false, cond, List, [], ◌∷◌, ◌++◌, leb, eqb, length, take, drop, replicate}
+use Rattle.std.specs.Prelude.{ℕ, zero, suc, ◌+◌, ◌*◌, ◌/◌, ◌%◌, min, Bool, true, false, cond, List, [], ◌∷◌, ◌++◌, leb, eqb, length, take, drop, replicate, Result, Ok, Err}
+use Rattle.card.specs.declared.Fault.{Fault}
+use Rattle.card.specs.declared.Fault.TheVariants.{SmallBuffers, Short, Edition, Large, Padding, LeftOver}
 -- ---- "Bits, most significant first"
 
 unfoldable pub use Rattle.bits.specs.Bits.{bits_of, bits_of_bytes, bits_of_all}
@@ -24,10 +26,23 @@ pub record Card : Type 0 where
   -- eps_acc, eps_inf, eps_zero, then c, A and b, as 64-bit patterns
   pub numbers : List ℕ
 
--- "Faults are 1 short, 2 edition, 3 n or m above 32, 4 padding not zero, 5 bytes left over."
-pub data Reading : Type 0 where
-  fault : ℕ → Reading
-  read : Card → Reading
+-- "Faults are 1 short, 2 edition, 3 n or m above 32, 4 padding not zero, 5 bytes left over." 0 is none of a card.
+abbrev pub fault_number : Fault → ℕ
+fault_number SmallBuffers = 0
+fault_number Short = 1
+fault_number Edition = 2
+fault_number Large = 3
+fault_number Padding = 4
+fault_number LeftOver = 5
+
+abbrev pub Reading : Type 0
+Reading = Result Card Fault
+
+pattern abbrev pub fault : Fault → Reading
+fault f = Err f
+
+pattern abbrev pub read : Card → Reading
+read k = Ok k
 
 -- "a packed A has n(n+1)/2 numbers"
 abbrev pub numbers_of_a : Bool → ℕ → ℕ → ℕ
@@ -41,7 +56,7 @@ number_count packed n m = 3 + n + numbers_of_a packed n m + m
 -- "a field that isn't whole is short": else its value, and the bits that follow
 unfoldable pub taken : ℕ → List ℕ → (ℕ → List ℕ → Reading) → Reading
 unfolding value_from
-taken w bits next = cond (leb w (length bits)) (next (value (take w bits)) (drop w bits)) (fault 1)
+taken w bits next = cond (leb w (length bits)) (next (value (take w bits)) (drop w bits)) (fault Short)
 
 -- so many fields of a width
 unfoldable pub taken_all : ℕ → ℕ → List ℕ → (List ℕ → List ℕ → Reading) → Reading
@@ -50,8 +65,8 @@ taken_all zero w bits next = next [] bits
 taken_all (suc k) w bits next = taken w bits (λ v rest. taken_all k w rest (λ vs after. next (v ∷ vs) after))
 
 -- a fault unless it holds
-abbrev pub judged : Bool → ℕ → Reading → Reading
-judged holds number next = cond holds next (fault number)
+abbrev pub judged : Bool → Fault → Reading → Reading
+judged holds f next = cond holds next (fault f)
 
 unfoldable pub all_zero : List ℕ → Bool
 all_zero [] = true
@@ -62,7 +77,7 @@ unfoldable pub closed : Card → List ℕ → Reading
 unfolding all_zero
 closed card bits =
     let padding = length bits % 8 in
-    judged (all_zero (take padding bits)) 4 (judged (eqb (length bits) padding) 5 (read card))
+    judged (all_zero (take padding bits)) Padding (judged (eqb (length bits) padding) LeftOver (read card))
 
 -- "4 edition (1), 1 packed flag, 6 n, 6 m, 6 number of cone words, the words at 16 each, 20 max_iter, 7 sweep limit, then 64 each for ..":
 -- "edition, n and m are each judged once they are read whole"
@@ -70,12 +85,12 @@ unfoldable pub read_bits : List ℕ → Reading
 unfolding taken taken_all closed
 read_bits bits =
     taken 4 bits
-    (λ edition bits1. judged (eqb edition 1) 2
+    (λ edition bits1. judged (eqb edition 1) Edition
     (taken 1 bits1
     (λ flag bits2. taken 6 bits2
-    (λ n bits3. judged (leb n 32) 3
+    (λ n bits3. judged (leb n 32) Large
     (taken 6 bits3
-    (λ m bits4. judged (leb m 32) 3
+    (λ m bits4. judged (leb m 32) Large
     (taken 6 bits4
     (λ count bits5. taken_all count 16 bits5
     (λ words bits6. taken 20 bits6

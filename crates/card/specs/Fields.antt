@@ -1,5 +1,6 @@
 -- A card's fields by their places: what the reader's own functions are held to.
 use Rattle.std.specs.Prelude.{ℕ, zero, suc, ◌+◌, ◌*◌, cond, List, [], ◌∷◌, leb, eqb, length, take, drop}
+use Rattle.card.specs.declared.Fault.TheVariants.{Short}
 use Rattle.card.specs.Card.{value_from, value, Card, Reading, fault, closed, number_count}
 
 -- the number that the w bits from a place on say
@@ -29,4 +30,4 @@ card_at n m bits =
 -- what is left to judge then
 unfoldable pub rest_at : ℕ → ℕ → List ℕ → Reading
 unfolding bit_count card_at closed
-rest_at n m bits = cond (leb (bit_count n m bits) (length bits)) (closed (card_at n m bits) (drop (bit_count n m bits) bits)) (fault 1)
+rest_at n m bits = cond (leb (bit_count n m bits) (length bits)) (closed (card_at n m bits) (drop (bit_count n m bits) bits)) (fault Short)

@@ -1,11 +1,12 @@
 // A field of bits, and how many numbers a card has.
 ghost use Rattle.std.specs.Prelude.{◌+◌, ◌*◌, ◌^◌, ◌<◌, ◌≤◌, ◌≡◌, length};
+ghost use Rattle.rules.specs.Refusals.{is_packed};
 ghost use Rattle.card.specs.Card.{bits_of_bytes, number_count};
 ghost use Rattle.card.specs.Fields.{field_at};
 ghost use Rattle.card.specs.Outcome.{stored_of};
 
 use bits::bit;
-use rules::{Cols, Rows};
+use rules::{Cols, Rows, Storage};
 
 // The number that some bits from a place on say.
 pub(crate) fn field(bytes: &[u8], at: usize, width: usize) -> u64
@@ -16,6 +17,7 @@ pub(crate) fn field(bytes: &[u8], at: usize, width: usize) -> u64
     ensures bound { result < 2 ^ width }
 {
     let mut v: u64 = 0;
+    // A bit's place counts from `at`: a number in any form.
     for k in 0..width {
         v = v * 2 + bit(bytes, at + k);
     }
@@ -23,30 +25,27 @@ pub(crate) fn field(bytes: &[u8], at: usize, width: usize) -> u64
 }
 
 // How many numbers A has; none where n or m is above 32, as in no card.
-pub fn stored(packed: bool, rows: Rows, cols: Cols) -> usize
-    ensures value { result ≡ stored_of packed rows cols }
+pub fn stored(storage: Storage, rows: Rows, cols: Cols) -> usize
+    ensures value { result ≡ stored_of storage rows cols }
     ensures bound { result ≤ 1024 }
 {
     let m = rows.0;
     let n = cols.0;
-    if n > 32 {
+    if n > 32 || m > 32 {
         return 0;
     }
-    if m > 32 {
-        return 0;
+    match storage {
+        Storage::Dense => m * n,
+        Storage::Packed => n * (n + 1) / 2,
     }
-    if packed {
-        return n * (n + 1) / 2;
-    }
-    m * n
 }
 
 // How many numbers a card has.
-pub(crate) fn number_count(packed: bool, rows: Rows, cols: Cols) -> usize
+pub(crate) fn number_count(storage: Storage, rows: Rows, cols: Cols) -> usize
     requires rows_bound { rows.0 ≤ 32 }
     requires cols_bound { cols.0 ≤ 32 }
-    ensures value { result ≡ number_count packed cols.0 rows.0 }
+    ensures value { result ≡ number_count (is_packed storage) cols.0 rows.0 }
     ensures bound { result ≤ 1091 }
 {
-    3 + cols.0 + stored(packed, rows, cols) + rows.0
+    3 + cols.0 + stored(storage, rows, cols) + rows.0
 }

@@ -1,115 +1,112 @@
 // The reader: a card's head is judged from its front, then its lists are read.
-ghost use Rattle.std.specs.Prelude.{◌+◌, ◌*◌, ◌≤◌, ◌≡◌, ◌++◌, length, drop};
+ghost use Rattle.std.specs.Prelude.{◌+◌, ◌*◌, ◌≤◌, ◌≡◌, length, IfOk};
 ghost use Rattle.card.specs.Card.{bits_of_bytes, read_card};
 ghost use Rattle.card.specs.Fields.{fields_at, rest_at};
-ghost use Rattle.card.specs.Outcome.{answer_of, ReadOutcome};
+ghost use Rattle.card.specs.Outcome.{answer_of, Bounds, ReadOutcome};
 
-use crate::CardRead;
 use crate::digits::{field, number_count};
+use crate::{CardHead, Fault, MOST_NUMBERS, MOST_WORDS, storage_of};
 use rules::{Cols, Rows};
 
 // What a card says beside its lists, or its first fault, once n and m are judged.
-fn rest_of(bytes: &[u8], n: usize, m: usize) -> CardRead
+fn rest_of(bytes: &[u8], n: usize, m: usize) -> Result<CardHead, Fault>
     requires n_bound { n ≤ 32 }
     requires m_bound { m ≤ 32 }
     requires in_bounds { 3 ≤ length bytes.now }
     ensures { result ≡ answer_of (rest_at n m (bits_of_bytes bytes.now)) }
 {
-    let packed = field(bytes, 4, 1) == 1;
-    let count = field(bytes, 17, 6) as usize;
-    let after_words = 23 + 16 * count;
-    let total = after_words + 20 + 7 + 64 * number_count(packed, Rows(m), Cols(n));
+    let flag = field(bytes, 4, 1);
+    let storage = storage_of(flag == 1);
+    let words = field(bytes, 17, 6) as usize;
+    let after_words = 23 + 16 * words;
+    let total = after_words + 20 + 7 + 64 * number_count(storage, Rows(m), Cols(n));
     let needed = (total + 7) / 8;
     if bytes.len() < needed {
-        return CardRead::Fault(1);
+        return Err(Fault::Short);
     }
     if field(bytes, total, needed * 8 - total) != 0 {
-        return CardRead::Fault(4);
+        return Err(Fault::Padding);
     }
     if bytes.len() != needed {
-        return CardRead::Fault(5);
+        return Err(Fault::LeftOver);
     }
     let max_iter = field(bytes, after_words, 20);
     let sweep_limit = field(bytes, after_words + 20, 7);
-    CardRead::Read(packed, Rows(m), Cols(n), count, max_iter, sweep_limit)
+    Ok(CardHead {
+        storage,
+        rows: Rows(m),
+        cols: Cols(n),
+        words,
+        max_iter,
+        sweep_limit,
+    })
 }
 
 // What a card says beside its lists, or its first fault.
 #[tactic(auto, using(crate::proofs::Front::no_n_answered, crate::proofs::Front::no_m_answered))]
-fn reading_of(bytes: &[u8]) -> CardRead
-    ensures { result ≡ answer_of (read_card bytes.now) }
+fn head_of(bytes: &[u8]) -> Result<CardHead, Fault>
+    ensures answered { result ≡ answer_of (read_card bytes.now) }
+    ensures bounds { IfOk result (λ head. Bounds bytes.now head) }
 {
     if bytes.len() < 1 {
-        return CardRead::Fault(1);
+        return Err(Fault::Short);
     }
     if field(bytes, 0, 4) != 1 {
-        return CardRead::Fault(2);
+        return Err(Fault::Edition);
     }
     if bytes.len() < 2 {
-        return CardRead::Fault(1);
+        return Err(Fault::Short);
     }
     let n = field(bytes, 5, 6) as usize;
     if n > 32 {
-        return CardRead::Fault(3);
+        return Err(Fault::Large);
     }
     if bytes.len() < 3 {
-        return CardRead::Fault(1);
+        return Err(Fault::Short);
     }
     let m = field(bytes, 11, 6) as usize;
     if m > 32 {
-        return CardRead::Fault(3);
+        return Err(Fault::Large);
     }
     rest_of(bytes, n, m)
 }
 
-// Reads so many words.
-fn fill_words(bytes: &[u8], words: &mut [u16], count: usize)
-    requires count_bound { count ≤ 63 }
-    requires count_in_bounds { count ≤ length words.old }
-    requires count_bound_2 { 23 + 16 * count ≤ 8 * length bytes.now }
-    ensures { words.new ≡ fields_at count 23 16 (bits_of_bytes bytes.now) ++ drop count words.old }
+// Reads words, as many as there are places.
+fn fill_words(bytes: &[u8], words: &mut [u16])
+    requires count_bound { length words.old ≤ 63 }
+    requires in_bounds { 23 + 16 * length words.old ≤ 8 * length bytes.now }
+    ensures { words.new ≡ fields_at (length words.old) 23 16 (bits_of_bytes bytes.now) }
 {
-    for i in 0..count {
-        words[i] = field(bytes, 23 + 16 * i, 16) as u16;
+    for (i, word) in words.iter_mut().enumerate() {
+        *word = field(bytes, 23 + 16 * i, 16) as u16;
     }
 }
 
-// Reads so many numbers from a place on.
-fn fill_numbers(bytes: &[u8], at: usize, numbers: &mut [u64], count: usize)
+// Reads numbers from a place on, as many as there are places. One function for both would need a trait with a law on
+// its cast, which is longer than the two.
+fn fill_numbers(bytes: &[u8], at: usize, numbers: &mut [u64])
     requires at_bound { at ≤ 1058 }
-    requires count_bound { count ≤ 1091 }
-    requires count_in_bounds { count ≤ length numbers.old }
-    requires count_bound_2 { at + 64 * count ≤ 8 * length bytes.now }
-    ensures { numbers.new ≡ fields_at count at 64 (bits_of_bytes bytes.now) ++ drop count numbers.old }
+    requires count_bound { length numbers.old ≤ 1091 }
+    requires in_bounds { at + 64 * length numbers.old ≤ 8 * length bytes.now }
+    ensures { numbers.new ≡ fields_at (length numbers.old) at 64 (bits_of_bytes bytes.now) }
 {
-    for i in 0..count {
-        numbers[i] = field(bytes, at + 64 * i, 64);
+    for (i, number) in numbers.iter_mut().enumerate() {
+        *number = field(bytes, at + 64 * i, 64);
     }
 }
 
-// Reads a card into two buffers. It answers a plain no where they may be too small, and changes
-// them only where the card has no fault.
-pub fn read_card(bytes: &[u8], words: &mut [u16], numbers: &mut [u64]) -> CardRead
-    ensures { ReadOutcome bytes.now words.old numbers.old result words.new numbers.new }
+// Reads a card into two buffers. It changes them only where the card has no fault, and they are as large as any
+// card's lists.
+pub fn read_card(bytes: &[u8], words: &mut [u16], numbers: &mut [u64]) -> Result<CardHead, Fault>
+    ensures outcome { ReadOutcome bytes.now words.old numbers.old result words.new numbers.new }
+    ensures bounds { IfOk result (λ head. Bounds bytes.now head) }
 {
-    if words.len() < 63 {
-        return CardRead::No;
+    if words.len() < MOST_WORDS || numbers.len() < MOST_NUMBERS {
+        return Err(Fault::SmallBuffers);
     }
-    if numbers.len() < 1091 {
-        return CardRead::No;
-    }
-    match reading_of(bytes) {
-        CardRead::No => return CardRead::No,
-        CardRead::Fault(f) => return CardRead::Fault(f),
-        CardRead::Read(packed, rows, cols, count, max_iter, sweep_limit) => {
-            fill_words(bytes, words, count);
-            fill_numbers(
-                bytes,
-                23 + 16 * count + 20 + 7,
-                numbers,
-                number_count(packed, rows, cols),
-            );
-            CardRead::Read(packed, rows, cols, count, max_iter, sweep_limit)
-        }
-    }
+    let head = head_of(bytes)?;
+    fill_words(bytes, &mut words[..head.words]);
+    let count = number_count(head.storage, head.rows, head.cols);
+    fill_numbers(bytes, 23 + 16 * head.words + 20 + 7, &mut numbers[..count]);
+    Ok(head)
 }

@@ -14,8 +14,8 @@ use Rattle.rules.specs.Refusals.{too_large, number_of}
 use Rattle.rules.proofs.Demands.{turned_away_exactly}
 use Rattle.rules.proofs.Enough.{never_short}
 use Rattle.card.specs.Card.{Card, read, read_card}
-use Rattle.card.specs.Outcome.{answer_of, rows_of, cols_of}
-use Rattle.card.proofs.Found.{n_most, m_most, count_most}
+use Rattle.card.specs.Outcome.{answer_of, head_of}
+use Rattle.card.proofs.Found.{bounds}
 use Rattle.card_answer.specs.Answer.{work_places, cone_places, problem_from, problem_of_card, left_of}
 
 record SizesOf (k : Card) (p : Problem) : Type 0 where
@@ -29,13 +29,13 @@ sizes k = record { n = refl; m = refl; words = refl }
 
 module _ (bytes : List ℕ) (k : Card) (e : read_card bytes ≡ read k) where
   columns : (problem_of_card k).n ≤ 32
-  columns = rw (sizes k).n (n_most bytes k.packed (rows_of k) (cols_of k) (length k.words) k.max_iter k.sweep_limit (ap answer_of e))
+  columns = rw (sizes k).n (bounds bytes (head_of k) (ap answer_of e)).cols_most
 
   rows : (problem_of_card k).m ≤ 32
-  rows = rw (sizes k).m (m_most bytes k.packed (rows_of k) (cols_of k) (length k.words) k.max_iter k.sweep_limit (ap answer_of e))
+  rows = rw (sizes k).m (bounds bytes (head_of k) (ap answer_of e)).rows_most
 
   few_words : length (problem_of_card k).words ≤ 63
-  few_words = rw (sizes k).words (count_most bytes k.packed (rows_of k) (cols_of k) (length k.words) k.max_iter k.sweep_limit (ap answer_of e))
+  few_words = rw (sizes k).words (bounds bytes (head_of k) (ap answer_of e)).words_most
 
   is_taken : too_large (problem_of_card k) ≡ false
   unfolding too_large

@@ -9,6 +9,8 @@ use lib.Dec.{leb, eqb}
 use lib.ListN.{length, take, drop, length-drop, take-append-drop}
 use lib.Seq.{length-take-le, take-nil, take-append-le, take-append-add, drop-append-le}
 use borrow.Author.Tests.{leb-true, le-leb, eqb-true, eqb-false}
+use Rattle.card.specs.declared.Fault.{Fault}
+use Rattle.card.specs.declared.Fault.TheVariants.{Edition, Large, Padding, LeftOver}
 use Rattle.card.specs.Card.{bits_of, bits_of_bytes, Card, Reading, fault, read, read_card, number_count, enough}
 use Rattle.card.specs.Fields.{field_at, bit_count, rest_at}
 use Rattle.bits.proofs.Bits.{bits_of-length, bits_length}
@@ -44,26 +46,26 @@ total_most n m bits b g h =
     omega (arith, total_is n m bits (field_at 4 1 bits) (field_at 17 6 bits) (number_count (eqb (field_at 4 1 bits) 1) n m) refl refl refl, field_below 17 6 bits b, number_most (eqb (field_at 4 1 bits) 1) n m g h)
 
 rest_long : (n m : ℕ) (bits : List ℕ) (len : ℕ) → Binary bits → length bits ≡ 8 * len → 8862 ≤ len → n ≤ 32 → m ≤ 32
-    → rest_at n m bits ≡ cond (eqb (field_at (bit_count n m bits) (padding (bit_count n m bits)) bits) 0) (fault 5) (fault 4)
+    → rest_at n m bits ≡ cond (eqb (field_at (bit_count n m bits) (padding (bit_count n m bits)) bits) 0) (fault LeftOver) (fault Padding)
 rest_long n m bits len b whole long g h = go (eqb (field_at (bit_count n m bits) (padding (bit_count n m bits)) bits) 0) refl (total_most n m bits b g h)
   where
     go : (t : Bool) → eqb (field_at (bit_count n m bits) (padding (bit_count n m bits)) bits) 0 ≡ t → bit_count n m bits ≤ 70882
-        → rest_at n m bits ≡ cond (eqb (field_at (bit_count n m bits) (padding (bit_count n m bits)) bits) 0) (fault 5) (fault 4)
+        → rest_at n m bits ≡ cond (eqb (field_at (bit_count n m bits) (padding (bit_count n m bits)) bits) 0) (fault LeftOver) (fault Padding)
     go true e most = rw e (rest_more n m bits len (bit_count n m bits) whole refl (eqb-true (field_at (bit_count n m bits) (padding (bit_count n m bits)) bits) 0 e) (omega arith))
     go false e most = rw e (rest_padding n m bits len (bit_count n m bits) whole refl (omega arith) (eqb-false (field_at (bit_count n m bits) (padding (bit_count n m bits)) bits) 0 e))
 
 -- ---- both readings
 
-if_small : (n m : ℕ) (x y : Reading) → (n ≤ 32 → m ≤ 32 → x ≡ y) → cond (leb n 32) (cond (leb m 32) x (fault 3)) (fault 3) ≡ cond (leb n 32) (cond (leb m 32) y (fault 3)) (fault 3)
+if_small : (n m : ℕ) (x y : Reading) → (n ≤ 32 → m ≤ 32 → x ≡ y) → cond (leb n 32) (cond (leb m 32) x (fault Large)) (fault Large) ≡ cond (leb n 32) (cond (leb m 32) y (fault Large)) (fault Large)
 if_small n m x y same = go (leb n 32) (leb m 32) refl refl
   where
-    go : (s t : Bool) → leb n 32 ≡ s → leb m 32 ≡ t → cond (leb n 32) (cond (leb m 32) x (fault 3)) (fault 3) ≡ cond (leb n 32) (cond (leb m 32) y (fault 3)) (fault 3)
+    go : (s t : Bool) → leb n 32 ≡ s → leb m 32 ≡ t → cond (leb n 32) (cond (leb m 32) x (fault Large)) (fault Large) ≡ cond (leb n 32) (cond (leb m 32) y (fault Large)) (fault Large)
     go true true d e = rw (d, e) (same (leb-true n 32 d) (leb-true m 32 e))
     go true false d e = rw (d, e)
     go false t d e = rw d
 
 sizes_inside : (bits : List ℕ) → 17 ≤ length bits
-    → by_places bits ≡ cond (eqb (field_at 0 4 bits) 1) (cond (leb (field_at 5 6 bits) 32) (cond (leb (field_at 11 6 bits) 32) (rest_at (field_at 5 6 bits) (field_at 11 6 bits) bits) (fault 3)) (fault 3)) (fault 2)
+    → by_places bits ≡ cond (eqb (field_at 0 4 bits) 1) (cond (leb (field_at 5 6 bits) 32) (cond (leb (field_at 11 6 bits) 32) (rest_at (field_at 5 6 bits) (field_at 11 6 bits) bits) (fault Large)) (fault Large)) (fault Edition)
 sizes_inside bits h = rw (le-leb 4 (length bits) (omega arith), le-leb 11 (length bits) (omega arith), le-leb 17 (length bits) h)
 
 module _ (bits : List ℕ) (len : ℕ) (b : Binary bits) (whole : length bits ≡ 8 * len) (long : 8862 ≤ len) (cut_binary : Binary (take 70896 bits)) where
@@ -106,15 +108,15 @@ read_short_of bytes h =
 
 -- ---- such a file has a fault
 
-no_card : (f : ℕ) (k : Card) → fault f ≡ read k → {A : Type 0} → A
+no_card : (f : Fault) (k : Card) → fault f ≡ read k → {A : Type 0} → A
 no_card f k e = let z : ◌≡◌ {A = ℕ} 0 1 = cc in absurd (omega arith)
 
-only_faults : (k : Card) (a b c d : Bool) → cond a (cond b (cond c (cond d (fault 5) (fault 4)) (fault 3)) (fault 3)) (fault 2) ≡ read k → {A : Type 0} → A
-only_faults k true true true true e = no_card 5 k e
-only_faults k true true true false e = no_card 4 k e
-only_faults k true true false d e = no_card 3 k e
-only_faults k true false c d e = no_card 3 k e
-only_faults k false b c d e = no_card 2 k e
+only_faults : (k : Card) (a b c d : Bool) → cond a (cond b (cond c (cond d (fault LeftOver) (fault Padding)) (fault Large)) (fault Large)) (fault Edition) ≡ read k → {A : Type 0} → A
+only_faults k true true true true e = no_card LeftOver k e
+only_faults k true true true false e = no_card Padding k e
+only_faults k true true false d e = no_card Large k e
+only_faults k true false c d e = no_card Large k e
+only_faults k false b c d e = no_card Edition k e
 
 pub too_long : (bytes : List ℕ) (k : Card) → enough ≤ length bytes → read_card bytes ≡ read k → {A : Type 0} → A
 too_long bytes k h e =
@@ -122,8 +124,8 @@ too_long bytes k h e =
     let n = field_at 5 6 bits in
     let m = field_at 11 6 bits in
     let total = bit_count n m bits in
-    let told = cond (eqb (field_at total (padding total) bits) 0) (fault 5) (fault 4) in
+    let told = cond (eqb (field_at total (padding total) bits) 0) (fault LeftOver) (fault Padding) in
     let long : 17 ≤ length bits = rw (bits_length bytes) (omega arith) in
-    let rest : cond (leb n 32) (cond (leb m 32) (rest_at n m bits) (fault 3)) (fault 3) ≡ cond (leb n 32) (cond (leb m 32) told (fault 3)) (fault 3) =
+    let rest : cond (leb n 32) (cond (leb m 32) (rest_at n m bits) (fault Large)) (fault Large) ≡ cond (leb n 32) (cond (leb m 32) told (fault Large)) (fault Large) =
     if_small n m (rest_at n m bits) told (rest_long n m bits (length bytes) (bytes_binary bytes) (bits_length bytes) h) in
     only_faults k (eqb (field_at 0 4 bits) 1) (leb n 32) (leb m 32) (eqb (field_at total (padding total) bits) 0) (sym (card_by_places bytes ∙ sizes_inside bits long ∙ rw rest) ∙ e)

@@ -9,5 +9,5 @@ pub const ENOUGH: usize = 8862;
 pub fn front_length(length: usize) -> usize
     ensures { result ≡ front_length length }
 {
-    if length < ENOUGH { length } else { ENOUGH }
+    length.min(ENOUGH)
 }

@@ -10,7 +10,7 @@ pub use enough::{ENOUGH, front_length};
 use std::io::Read;
 
 // Reads the front of a file that has at most so many bytes to the start of a buffer, and answers how many bytes
-// there are. A buffer that may be too short is left alone, and 0 answered.
+// there are. A buffer that may be too short is left alone, and 0 answered: nothing was read, and a caller needs no arm for it.
 pub fn read_front<R: Read>(input: &mut R, most: usize, bytes: &mut [u8]) -> usize
     ensures prefix_len { IsPrefixLen result bytes.new }
     ensures front_outcome { FrontOutcome most bytes.old result bytes.new }
@@ -19,5 +19,5 @@ pub fn read_front<R: Read>(input: &mut R, most: usize, bytes: &mut [u8]) -> usiz
     if bytes.len() < count {
         return 0;
     }
-    lines::read_full(input, &mut bytes[0..count])
+    lines::read_full(input, &mut bytes[..count])
 }

@@ -1,44 +1,18 @@
 // A number, as an argument says it in decimal digits.
-ghost use Rattle.std.specs.Prelude.{◌<◌};
-
 use crate::words::WORD_ROOM;
 use std::rt::Env;
 
-#[derive(Clone, Copy)]
-pub enum Number {
-    Is(u32),
-    None,
-}
-
-pub fn number_argument<R: Env>(rt: &R, i: usize) -> Number {
+pub fn number_argument<R: Env>(rt: &R, i: usize) -> Option<u32> {
     let mut word = [0u8; WORD_ROOM];
-    match rt.arg(i, &mut word) {
-        Ok(length) => number_of(&word[..length]),
-        Err(_) => Number::None,
-    }
+    let length = rt.arg(i, &mut word).ok()?;
+    number_of(&word[..length])
 }
 
-// The number that the digits say; none where there are no digits, other bytes, or more than 32 bits.
-fn number_of(word: &[u8]) -> Number {
-    if word.len() == 0 {
-        return Number::None;
+// The number that the digits say; none where there are no digits, other bytes, or more than 32 bits. parse alone takes
+// a sign before them.
+fn number_of(word: &[u8]) -> Option<u32> {
+    if word.starts_with(b"+") {
+        return None;
     }
-    let mut number: u64 = 0;
-    for i in 0..word.len() {
-        let digit = word[i];
-        if digit < b'0' || digit > b'9' {
-            return Number::None;
-        }
-        number = number * 10 + wide(digit - b'0');
-        if number > 4294967295 {
-            return Number::None;
-        }
-    }
-    Number::Is(number as u32)
-}
-
-fn wide(x: u8) -> u64
-    ensures { result < 256 }
-{
-    x as u64
+    str::from_utf8(word).ok()?.parse::<u32>().ok()
 }

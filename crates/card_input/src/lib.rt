@@ -1,145 +1,118 @@
 // A program's arguments: numbers, and files as they name them, read into a buffer. Why a file can't be read is told
-// on standard error.
+// on standard error, and none answered.
 #![tactic(auto)]
 
 mod decimal;
 mod words;
 
+ghost use Rattle.std.specs.Prelude.{◌≡◌, Some, None, MatchResult};
 ghost use Rattle.card_input.specs.Input.{Within};
 
 use card_file::ENOUGH;
-pub use decimal::{Number, number_argument};
+pub use decimal::number_argument;
 use std::fs::File;
-use std::io::Read;
+use std::io::{Error, Read};
 use std::rt::{Env, Files};
 pub use words::{argument_count, fail, is_argument};
 use words::{WORD_ROOM, more_after_the_end, no_text, word};
 
-// How many bytes were read, to the start of the buffer, or that they could not be.
-#[derive(Clone, Copy)]
-pub enum Input {
-    Read(usize),
-    Unreadable,
-}
-
-// The front of the card that an argument names; `-` is standard input, and so is an argument that is missing.
+// The front of the card that an argument names; `-` is standard input, and so is an argument that is missing. It
+// answers how many bytes were read, to the start of the buffer.
 pub fn read_argument<R: Env + Files + std::io::Input + Eprint>(
     rt: &R,
     i: usize,
     bytes: &mut [u8],
-) -> Input
+) -> Option<usize>
     ensures { Within result bytes.new }
 {
     if !is_argument(rt, i) {
         return read_standard(rt, bytes);
     }
     let mut name = [0u8; WORD_ROOM];
-    match word(rt, i, &mut name) {
-        Err(e) => {
-            fail(rt, "the file's name", e);
-            Input::Unreadable
-        }
-        Ok(length) => read_named(rt, &name[..length], bytes),
+    let length = or_tell(rt, "the file's name", word(rt, i, &mut name))?;
+    if matches!(&name[..length], [b'-']) {
+        return read_standard(rt, bytes);
     }
+    let path = or_tell(rt, "the file's name", text_of(&name[..length]))?;
+    let mut file = or_tell(rt, path, File::open(rt, path))?;
+    read_open(rt, &mut file, path, bytes)
 }
 
 // The file that an argument names, as much of it as the buffer holds.
-pub fn read_file<R: Env + Files + Eprint>(rt: &R, i: usize, bytes: &mut [u8]) -> Input
+pub fn read_file<R: Env + Files + Eprint>(rt: &R, i: usize, bytes: &mut [u8]) -> Option<usize>
     ensures { Within result bytes.new }
 {
     let mut name = [0u8; WORD_ROOM];
-    match word(rt, i, &mut name) {
-        Err(e) => {
-            fail(rt, "the name of the file", e);
-            Input::Unreadable
-        }
-        Ok(length) => read_path(rt, &name[..length], bytes),
-    }
+    let length = or_tell(rt, "the name of the file", word(rt, i, &mut name))?;
+    let path = or_tell(rt, "the name of the file", text_of(&name[..length]))?;
+    let mut file = or_tell(rt, path, File::open(rt, path))?;
+    read_whole(rt, &mut file, path, bytes)
 }
 
-fn read_path<R: Files + Eprint>(rt: &R, name: &[u8], bytes: &mut [u8]) -> Input
-    ensures { Within result bytes.new }
+// What was answered; an error is told, after what failed.
+fn or_tell<R: Eprint, T>(rt: &R, what: &str, answer: Result<T, Error>) -> Option<T>
+    ensures { MatchResult answer (λ value. result ≡ Some value) (λ _. result ≡ None) }
 {
-    let Ok(path) = str::from_utf8(name) else {
-        fail(rt, "the name of the file", no_text());
-        return Input::Unreadable;
-    };
-    match File::open(rt, path) {
+    match answer {
+        Ok(value) => Some(value),
         Err(e) => {
-            fail(rt, path, e);
-            Input::Unreadable
+            fail(rt, what, e);
+            None
         }
-        Ok(mut file) => read_whole(rt, &mut file, path, bytes),
     }
 }
 
-fn read_standard<R: std::io::Input + Eprint>(rt: &R, bytes: &mut [u8]) -> Input
+fn text_of(name: &[u8]) -> Result<&str, Error> {
+    str::from_utf8(name).map_err(|_| no_text())
+}
+
+fn read_standard<R: std::io::Input + Eprint>(rt: &R, bytes: &mut [u8]) -> Option<usize>
     ensures { Within result bytes.new }
 {
     let mut input = rt.reader();
     read_open(rt, &mut input, "standard input", bytes)
 }
 
-fn read_named<R: Files + std::io::Input + Eprint>(rt: &R, name: &[u8], bytes: &mut [u8]) -> Input
-    ensures { Within result bytes.new }
-{
-    if is_dash(name) {
-        return read_standard(rt, bytes);
-    }
-    let Ok(path) = str::from_utf8(name) else {
-        fail(rt, "the file's name", no_text());
-        return Input::Unreadable;
-    };
-    match File::open(rt, path) {
-        Err(e) => {
-            fail(rt, path, e);
-            Input::Unreadable
-        }
-        Ok(mut file) => read_open(rt, &mut file, path, bytes),
-    }
-}
-
-fn is_dash(name: &[u8]) -> bool {
-    if name.len() != 1 {
-        return false;
-    }
-    name[0] == b'-'
-}
-
 // The front of an open file, which has this name where it can't be read.
-fn read_open<R: Eprint, F: Read>(rt: &R, input: &mut F, name: &str, bytes: &mut [u8]) -> Input
+fn read_open<R: Eprint, F: Read>(
+    rt: &R,
+    input: &mut F,
+    name: &str,
+    bytes: &mut [u8],
+) -> Option<usize>
     ensures { Within result bytes.new }
 {
     let length = card_file::read_front(input, ENOUGH, bytes);
     if length < ENOUGH && !is_at_end(rt, input, name) {
-        return Input::Unreadable;
+        return None;
     }
-    Input::Read(length)
+    Some(length)
 }
 
 // As much of an open file as the buffer holds.
-fn read_whole<R: Eprint, F: Read>(rt: &R, input: &mut F, name: &str, bytes: &mut [u8]) -> Input
+fn read_whole<R: Eprint, F: Read>(
+    rt: &R,
+    input: &mut F,
+    name: &str,
+    bytes: &mut [u8],
+) -> Option<usize>
     ensures { Within result bytes.new }
 {
     let count = lines::read_full(input, bytes);
     if count < bytes.len() && !is_at_end(rt, input, name) {
-        return Input::Unreadable;
+        return None;
     }
-    Input::Read(count)
+    Some(count)
 }
 
 // Whether the input has ended, which else is told; after a read that failed, the next one fails too.
 fn is_at_end<R: Eprint, F: Read>(rt: &R, input: &mut F, name: &str) -> bool {
     let mut more = [0u8; 1];
-    match input.read(&mut more) {
-        Ok(0) => true,
-        Ok(_) => {
-            fail(rt, name, more_after_the_end());
-            false
-        }
-        Err(e) => {
-            fail(rt, name, e);
-            false
-        }
-    }
+    let error = match input.read(&mut more) {
+        Ok(0) => return true,
+        Ok(_) => more_after_the_end(),
+        Err(e) => e,
+    };
+    fail(rt, name, error);
+    false
 }

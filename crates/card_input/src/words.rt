@@ -14,20 +14,14 @@ const TEXT_ROOM: usize = 320;
 // Whether the program was started with this argument.
 pub fn is_argument<R: Env>(rt: &R, i: usize) -> bool {
     let mut word = [0u8; 1];
-    match rt.arg(i, &mut word) {
-        Err(FillError::NotPresent) => false,
-        _ => true,
-    }
+    !matches!(rt.arg(i, &mut word), Err(FillError::NotPresent))
 }
 
 // How many arguments the program was started with, its own name among them.
 pub fn argument_count<R: Env>(rt: &R) -> usize {
-    for i in 0..usize::MAX {
-        if !is_argument(rt, i) {
-            return i;
-        }
-    }
-    usize::MAX
+    (0..usize::MAX)
+        .find(|i| !is_argument(rt, *i))
+        .unwrap_or(usize::MAX)
 }
 
 // Puts an argument at the start of a buffer, and answers its length, or why it is not there.
@@ -72,8 +66,6 @@ pub fn fail<R: Eprint>(rt: &R, what: &str, error: Error) {
 }
 
 fn without_number(text: &str) -> &str {
-    match text.split_once(" (os error ") {
-        Some((words, _)) => words,
-        None => text,
-    }
+    text.split_once(" (os error ")
+        .map_or(text, |(words, _)| words)
 }

@@ -14,11 +14,13 @@ use Rattle.rules.specs.declared.Ending.{Ending}
 use Rattle.rules.specs.declared.Ending.TheVariants.{BadParam, TooLarge, InvalidOp, BadCone, NotFinite, WorkShortage, Converged, ExcessIter, ExcessIterUnscaled, Unbounded, Infeasible, ConeFailure}
 use Rattle.rules.specs.Arithmetic.{+0}
 use Rattle.rules.specs.Run.{solution_x, solution_y}
-use Rattle.card.specs.Card.{read_card}
+use Rattle.std.specs.Prelude.{Result, Ok, Err}
+use Rattle.rules.specs.declared.Answer.{Answer}
+use Rattle.card.specs.Card.{read_card, fault_number}
+use Rattle.card.specs.declared.Fault.{Fault}
 use Rattle.card_text.specs.Text.{newline, Decimal, Numbered, FirstLine, Ended, number_lines, AnswerText, ToldText, CardText, Says, text_room, TextOutcome}
 use Rattle.card_answer.specs.Answer.{work_places, told_of, work_after}
-use Rattle.card_answer.specs.declared.Told.{Told}
-use Rattle.card_answer.specs.declared.Told.TheVariants.{Fault, Answered}
+use Rattle.card_problem.specs.declared.Told.{Told}
 use Rattle.card_text.proofs.Texts.{below}
 
 same_places : (n j k : ℕ) → IsDigitCount 10 1 n j → IsDigitCount 10 1 n k → j ≡ k
@@ -55,9 +57,10 @@ same_answer (Unbounded a) k q x y s t d e = same_ended _ k q x y s t d e
 same_answer (Infeasible a) k q x y s t d e = same_ended _ k q x y s t d e
 same_answer (ConeFailure b) k q x y s t d e = same_ended _ k q x y s t d e
 
-pub same_told : (told : Told) (work : List Float) (s t : List ℕ) → ToldText told work s → ToldText told work t → s ≡ t
-same_told (Fault f) work s t d e = same_numbered _ f s t d e
-same_told (Answered rows cols a k q) work s t d e = same_answer a k q (solution_x cols.0 work) (solution_y rows.0 cols.0 work) s t d e
+pub same_told : (told : Result (Told Answer) Fault) (work : List Float) (s t : List ℕ) → ToldText told work s → ToldText told work t → s ≡ t
+same_told (Err f) work s t d e = same_numbered _ (fault_number f) s t d e
+same_told (Ok told) work s t d e =
+    same_answer told.answer.ending told.answer.steps told.answer.rotations (solution_x told.cols.0 work) (solution_y told.rows.0 told.cols.0 work) s t d e
 
 -- the text of a card, where the buffer holds any
 same_text : (bytes before : List ℕ) (j k : ℕ) (after after' : List ℕ) → Says (CardText (read_card bytes)) before j after → Says (CardText (read_card bytes)) before k after'

@@ -11,14 +11,20 @@ use Rattle.rules.specs.declared.Ending.TheVariants.{Converged}
 use Rattle.rules.specs.Arithmetic.{+0}
 use Rattle.rules.specs.Run.{solution_x, solution_y}
 use Rattle.rules.specs.Refusals.{solved}
+use Rattle.std.specs.Prelude.{Result, Ok}
+use Rattle.rules.specs.declared.Answer.{Answer}
 use Rattle.card.specs.Card.{read_card}
+use Rattle.card.specs.declared.Fault.{Fault}
 use Rattle.card_answer.specs.Answer.{work_places, problem_from, told_of, work_after}
 use Rattle.card_text.specs.Text.{number_lines, AnswerText, ToldText, text_room, TextOutcome}
 use Rattle.card_text.specs.EmptyCard.{empty_card, the_line}
-use Rattle.card_answer.specs.declared.Told.TheVariants.{Answered}
+use Rattle.card_problem.specs.declared.Told.{Told}
 use Rattle.card_text.proofs.Coincide.{same_told}
 
-told_of-empty : told_of (read_card empty_card) (replicate work_places +0) ≡ Answered (record { 0 = 0 }) (record { 0 = 0 }) (Converged +0 +0 +0) 1 0
+abbrev the_answer : Result (Told Answer) Fault
+the_answer = Ok (record { rows = record { 0 = 0 }; cols = record { 0 = 0 }; answer = record { ending = Converged +0 +0 +0; steps = 1; rotations = 0 } })
+
+told_of-empty : told_of (read_card empty_card) (replicate work_places +0) ≡ the_answer
 unfolding empty_card read_card problem_from solved
 told_of-empty = refl
 
@@ -53,5 +59,5 @@ allowed work =
 pub the_empty_problem : (before : List ℕ) (count : ℕ) (after : List ℕ) → text_room ≤ length before → TextOutcome empty_card before count after → take count after ≡ the_line
 the_empty_problem before count after h o =
     let work = work_after (read_card empty_card) (replicate work_places +0) in
-    let text : ToldText (Answered (record { 0 = 0 }) (record { 0 = 0 }) (Converged +0 +0 +0) 1 0) work (take count after) = rw told_of-empty at (o.written h).said in
-    same_told (Answered (record { 0 = 0 }) (record { 0 = 0 }) (Converged +0 +0 +0) 1 0) work (take count after) the_line text (allowed work)
+    let text : ToldText the_answer work (take count after) = rw told_of-empty at (o.written h).said in
+    same_told the_answer work (take count after) the_line text (allowed work)

@@ -1,18 +1,20 @@
 -- The line of a card that is solved with a progress record, of any period, is the first of its text without one.
 use Prim.Native.Nat.{ℕ}
-use mathlib.Core.Path.{◌≡◌, refl, sym, ◌∙◌}
+use mathlib.Core.Path.{◌≡◌, sym, ◌∙◌}
 use mathlib.Core.List.{List, [], ◌++◌, append-nil, append_assoc}
 use lib.Ieee.{Float}
 use lib.ListN.{replicate}
 use Rattle.rules.specs.declared.Ending.{Ending}
 use Rattle.rules.specs.declared.Ending.TheVariants.{BadParam, TooLarge, InvalidOp, BadCone, NotFinite, WorkShortage, Converged, ExcessIter, ExcessIterUnscaled, Unbounded, Infeasible, ConeFailure}
 use Rattle.rules.specs.Arithmetic.{+0}
-use Rattle.card.specs.Card.{read_card}
+use Rattle.std.specs.Prelude.{Result, Ok, Err}
+use Rattle.rules.specs.declared.Logged.{Logged}
+use Rattle.card.specs.Card.{read_card, fault_number}
+use Rattle.card.specs.declared.Fault.{Fault}
 use Rattle.card_answer.specs.Answer.{work_places, work_after, logged_told_of}
-use Rattle.card_answer.specs.declared.ToldLogged.{ToldLogged}
-use Rattle.card_answer.specs.declared.ToldLogged.TheVariants.{Fault as LoggedFault, Answered as LoggedAnswer}
+use Rattle.card_problem.specs.declared.Told.{Told}
 use Rattle.card_answer.proofs.Outcome.{plain_told, plain_told_lem}
-use Rattle.card_text.specs.Text.{Numbered, Ended, number_lines, AnswerText, ToldText, CardText, LoggedLine}
+use Rattle.card_text.specs.Text.{Ended, number_lines, AnswerText, ToldText, CardText, LoggedLine}
 use Rattle.card_text.proofs.Coincide.{same_numbered, same_first}
 
 pub record StartsWith (line text : List ℕ) : Type 0 where
@@ -46,10 +48,10 @@ answered (Unbounded a) k q x y text line d e = ended _ k q x y text line d e
 answered (Infeasible a) k q x y text line d e = ended _ k q x y text line d e
 answered (ConeFailure b) k q x y text line d e = ended _ k q x y text line d e
 
-told : (t : ToldLogged) (work : List Float) (text line : List ℕ) → ToldText (plain_told t) work text → LoggedLine t line → StartsWith line text
-told (LoggedFault f) work text line d e = whole line text (same_numbered _ f text line d e)
-told (LoggedAnswer rows cols logged) work text line d e =
-    answered logged.answer.ending logged.answer.steps logged.answer.rotations _ _ text line d e
+told : (t : Result (Told Logged) Fault) (work : List Float) (text line : List ℕ) → ToldText (plain_told t) work text → LoggedLine t line → StartsWith line text
+told (Err f) work text line d e = whole line text (same_numbered _ (fault_number f) text line d e)
+told (Ok t) work text line d e =
+    answered t.answer.answer.ending t.answer.answer.steps t.answer.answer.rotations _ _ text line d e
 
 pub the_first_line_is_the_same : (bytes : List ℕ) (period : ℕ) (log : List Float) (text line : List ℕ) → CardText (read_card bytes) text → LoggedLine (logged_told_of (read_card bytes) period (replicate work_places +0) log) line → StartsWith line text
 the_first_line_is_the_same bytes period log text line d e =

@@ -8,30 +8,27 @@ use mathlib.Core.Bool.{Bool, true, false}
 use mathlib.Core.List.{List, [], ◌∷◌, ◌++◌, append_assoc, append-nil}
 use lib.Ieee.{Float, nan, binary64, to_bits}
 use lib.Dec.{ltb}
-use lib.ListN.{length, take, drop, get_or, set}
+use lib.ListN.{length, take, get_or, length-append}
 use borrow.Author.Tests.{ltb-true, ltb-false}
-use lib.Seq.{take-suc, take-length}
+use lib.Seq.{take-suc, take-length, take_at, length-take-le}
 use Rattle.io.specs.Digits.{last_digits, IsDigitCount}
-use Rattle.rules.proofs.Growing.{kept_on, grown_on, grown_none, grown_one}
+use borrow.Rule.Slice.PartMut.{put_mid, post_of, drop_put}
+use Rattle.rules.proofs.Growing.{kept_on, grown_on, grown_none}
 use Rattle.card_text.specs.Text.{newline, space, number_line, number_lines, Numbered, FirstLine, Ended, Says}
 use Rattle.card_text.specs.Growing.{Grown}
 
 -- ---- bytes put one after another
 
-pub put_none : (at : ℕ) (text bytes : List ℕ) → Grown at text (take 0 bytes) (at + 0) text
-put_none at text bytes =
-    let e : at + 0 ≡ at = omega arith in
-    rw e (grown_none at text)
-
-pub put_more : (at i v : ℕ) (before text bytes : List ℕ) → Grown at before (take i bytes) (at + i) text → at + i < length text → i < length bytes → v ≡ get_or bytes i 0
-    → Grown at before (take (i + 1) bytes) (at + (i + 1)) (set text (at + i) v)
-put_more at i v before text bytes e h g is =
-    let next : at + (i + 1) ≡ at + i + 1 = omega arith in
-    let more : take (i + 1) bytes ≡ take i bytes ++ v ∷ [] = rw (add-one i, is) (take-suc bytes i 0 g) in
-    rw (next, more) (grown_on at (at + i) (at + i + 1) before text (set text (at + i) v) (take i bytes) (v ∷ []) (omega arith) e (grown_one (at + i) v text h))
-
-pub put_all : (at i : ℕ) (before text bytes : List ℕ) → Grown at before (take i bytes) (at + i) text → i ≡ length bytes → Grown at before bytes (at + length bytes) text
-put_all at i before text bytes e h = rw (h, take-length bytes) at e
+-- a part of a buffer that comes back as the bytes
+pub part_put : (at : ℕ) (text bytes part : List ℕ) → at + length bytes ≤ length text → part ≡ bytes → Grown at text bytes (at + length bytes) (put_mid at (at + length bytes - at) text part)
+part_put at text bytes part h e =
+    let end = at + length bytes in
+    let rest = post_of at (end - at) text in
+    let long : length (take at text ++ bytes) ≡ end = rw (length-append (take at text) bytes, length-take-le at text (omega arith)) in
+    record {
+      text = rw e (ap (take end) (sym (append_assoc (take at text) bytes rest)) ∙ take_at (take at text ++ bytes) rest end long);
+      kept = rw e (drop_put at end text bytes (omega arith) h (omega arith));
+    }
 
 -- ---- a number's digits
 

@@ -1,6 +1,6 @@
 -- Document 02, (i): "The program writes `Card N`, `Refused N`, or the ending's name, k and q, then x and y as 16 lowercase hex digits a line, any NaN as
 -- 7ff8000000000000." Text is bytes, in ASCII.
-use Rattle.std.specs.Prelude.{ℕ, ◌≤◌, ◌<◌, ◌≡◌, List, [], ◌∷◌, ◌++◌, Float, length, take, drop, replicate}
+use Rattle.std.specs.Prelude.{ℕ, ◌≤◌, ◌<◌, ◌≡◌, List, [], ◌∷◌, ◌++◌, Float, length, take, drop, replicate, Result, Ok, Err}
 use Rattle.std.specs.Float.{binary64}
 use Rattle.std.specs.Float.Ieee.{to_bits}
 use Rattle.io.specs.Digits.{last_digits, IsDigitCount}
@@ -9,12 +9,12 @@ use Rattle.rules.specs.declared.Ending.TheVariants.{BadParam, TooLarge, InvalidO
 use Rattle.rules.specs.Arithmetic.{+0}
 use Rattle.rules.specs.Refusals.{number_of}
 use Rattle.rules.specs.Run.{solution_x, solution_y}
-use Rattle.card.specs.Card.{Reading, read_card}
+use Rattle.rules.specs.declared.Answer.{Answer}
+use Rattle.rules.specs.declared.Logged.{Logged}
+use Rattle.card.specs.Card.{Reading, read_card, fault_number}
+use Rattle.card.specs.declared.Fault.{Fault}
 use Rattle.card_answer.specs.Answer.{work_places, told_of, work_after}
-use Rattle.card_answer.specs.declared.Told.{Told}
-use Rattle.card_answer.specs.declared.Told.TheVariants.{Fault, Answered}
-use Rattle.card_answer.specs.declared.ToldLogged.{ToldLogged}
-use Rattle.card_answer.specs.declared.ToldLogged.TheVariants.{Fault as LoggedFault, Answered as LoggedAnswer}
+use Rattle.card_problem.specs.declared.Told.{Told}
 
 abbrev pub newline : List ℕ
 newline = 10 ∷ []
@@ -95,9 +95,9 @@ AnswerText (Infeasible a) k q x y = Ended infeasible k q x y
 AnswerText (ConeFailure b) k q x y = Ended cone_failure k q x y
 
 -- what is told, as text
-abbrev pub ToldText : Told → List Float → List ℕ → Type 0
-ToldText (Fault f) work = Numbered card f
-ToldText (Answered rows cols e k q) work = AnswerText e k q (solution_x cols.0 work) (solution_y rows.0 cols.0 work)
+abbrev pub ToldText : Result (Told Answer) Fault → List Float → List ℕ → Type 0
+ToldText (Err f) work = Numbered card (fault_number f)
+ToldText (Ok told) work = AnswerText told.answer.ending told.answer.steps told.answer.rotations (solution_x told.cols.0 work) (solution_y told.rows.0 told.cols.0 work)
 
 -- "The program writes .." for a card that is read so: what is told of it over zeroed work
 abbrev pub CardText : Reading → List ℕ → Type 0
@@ -122,11 +122,11 @@ pub record TextOutcome (bytes before : List ℕ) (count : ℕ) (after : List ℕ
 
 -- ---- the first line alone, of a card that was solved with a progress record: that of an answer without x and y
 
-abbrev pub LoggedLine : ToldLogged → List ℕ → Type 0
-LoggedLine (LoggedFault f) = Numbered card f
-LoggedLine (LoggedAnswer rows cols logged) = AnswerText logged.answer.ending logged.answer.steps logged.answer.rotations [] []
+abbrev pub LoggedLine : Result (Told Logged) Fault → List ℕ → Type 0
+LoggedLine (Err f) = Numbered card (fault_number f)
+LoggedLine (Ok told) = AnswerText told.answer.answer.ending told.answer.answer.steps told.answer.answer.rotations [] []
 
-pub record FirstLineOutcome (told : ToldLogged) (before : List ℕ) (count : ℕ) (after : List ℕ) : Type 0 where
+pub record FirstLineOutcome (told : Result (Told Logged) Fault) (before : List ℕ) (count : ℕ) (after : List ℕ) : Type 0 where
   pub inside : count ≤ length after
   pub too_short : length before < text_room → (count ≡ 0) × (after ≡ before)
   pub written : text_room ≤ length before → Says (LoggedLine told) before count after

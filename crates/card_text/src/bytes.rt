@@ -1,4 +1,5 @@
-// Bytes put into a buffer one after another: text, and numbers as digits.
+// Bytes put into a buffer one after another: text, and numbers as digits. That the bytes are what the rule says is
+// proved (`AnswerText`), which `write!` would leave open.
 ghost use Rattle.std.specs.Prelude.{◌+◌, ◌-◌, ◌*◌, ◌≤◌, ◌≡◌, length};
 ghost use Rattle.io.specs.Digits.{last_digits, IsDigitCount};
 ghost use Rattle.card_text.specs.Text.{number_line, number_lines};
@@ -10,10 +11,9 @@ pub(crate) fn put(text: &mut [u8], at: usize, bytes: &[u8]) -> usize
     ensures value { result ≡ at + length bytes.now }
     ensures grown { Grown at text.old bytes.now result text.new }
 {
-    for i in 0..bytes.len() {
-        text[at + i] = bytes[i];
-    }
-    at + bytes.len()
+    let end = at + bytes.len();
+    text[at..end].copy_from_slice(bytes);
+    end
 }
 
 // Puts a number's decimal digits.
@@ -48,8 +48,8 @@ pub(crate) fn put_numbers(text: &mut [u8], at: usize, numbers: &[f64]) -> usize
     ensures grown { Grown at text.old (number_lines numbers.now) result text.new }
 {
     let mut end = at;
-    for i in 0..numbers.len() {
-        end = put_number(text, end, numbers[i]);
+    for &number in numbers {
+        end = put_number(text, end, number);
     }
     end
 }

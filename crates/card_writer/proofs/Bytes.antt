@@ -8,7 +8,8 @@ use mathlib.Core.Bool.{Bool, true, false}
 use mathlib.Core.List.{List, [], ◌∷◌, ◌++◌}
 use lib.Dec.{ltb}
 use lib.ListN.{length, drop, get_or, set, replicate, length-append, length-drop, length-replicate, get_or-replicate, get_or-append, get_or-eq_default}
-use lib.Seq.{get_or-drop, get_or-append-add, drop-drop}
+use Rattle.std.proofs.Common.{append-nil}
+use lib.Seq.{drop-length, get_or-drop, get_or-append-add, drop-drop}
 use borrow.Author.Tests.{ltb-true, ltb-false}
 use Rattle.card.specs.Card.{bytes_of}
 use Rattle.card.specs.Fields.{field_at}
@@ -58,3 +59,6 @@ pub byte_written : (k : ℕ) (bits l bytes : List ℕ) (v : ℕ) → bytes ≡ b
     → set bytes k v ≡ bytes_of (k + 1) bits ++ drop (k + 1) l
 byte_written k bits l bytes v e h f =
     rw (e, f, add-one k, bytes_of_more k bits) (stored (bytes_of k bits) l k (byte_at bits k) (bytes_of-length k bits) h)
+
+pub all_written : (k : ℕ) (bits l bytes : List ℕ) → bytes ≡ bytes_of k bits ++ drop k l → k ≡ length l → bytes ≡ bytes_of (length l) bits
+all_written k bits l bytes e h = rw (e, h, drop-length l) (append-nil (bytes_of (length l) bits))

@@ -10,6 +10,7 @@ use lib.ListN.{length, take, drop, get_or, replicate, length-append, length-repl
 use lib.Seq.{take_all, take_at, drop_at, drop-drop, get_or-take, get_or-append-add, ext_get_or}
 use borrow.Author.Tests.{ltb-true, ltb-false, le-leb, eq-eqb}
 use Rattle.card.specs.Card.{bits_of, bits_of_all, bits_of_bytes, all_zero, Card, Reading, fault, read, number_count, taken, taken_all, closed, read_bits, read_card, bytes_for, bytes_of, card_bits, written_card}
+use Rattle.card.specs.declared.Fault.TheVariants.{Large}
 use Rattle.card.specs.Fields.{field_at}
 use Rattle.card_writer.specs.Bytes.{byte_at}
 use Rattle.card_writer.specs.RoundTrip.{Fits}
@@ -190,9 +191,9 @@ module _ (k : Card) (fits : Fits k) (pad : List ℕ) where
       ∙ taken_on 4 1 r1 after_edition (omega arith)
       ∙ taken_on 1 f r2 after_flag (flag_below k.packed)
       ∙ taken_on 6 n r3 (after_n f) (omega (arith, fits.n_fits))
-      ∙ ap (λ (t : Bool). cond t (taken 6 r3 (after_m f n)) (fault 3)) (le-leb n 32 fits.n_fits)
+      ∙ ap (λ (t : Bool). cond t (taken 6 r3 (after_m f n)) (fault Large)) (le-leb n 32 fits.n_fits)
       ∙ taken_on 6 m r4 (after_m f n) (omega (arith, fits.m_fits))
-      ∙ ap (λ (t : Bool). cond t (taken 6 r4 (after_count f n m)) (fault 3)) (le-leb m 32 fits.m_fits)
+      ∙ ap (λ (t : Bool). cond t (taken 6 r4 (after_count f n m)) (fault Large)) (le-leb m 32 fits.m_fits)
       ∙ taken_on 6 count r5 (after_count f n m) (omega (arith, fits.few_words))
       ∙ all_on 16 k.words r6 (after_words f n m) fits.words_fit
       ∙ taken_on 20 k.max_iter r7 (after_max_iter f n m k.words) fits.max_iter_fits

@@ -1,5 +1,5 @@
 -- What a reader and a writer promise each other, and that the writer's outcome is one thing.
-use Prim.Native.Nat.{ℕ, ◌+◌, ◌*◌, ◌≤◌, ◌<◌}
+use Prim.Native.Nat.{ℕ, ◌+◌, ◌*◌, ◌<◌}
 use native.Mathlib.Omega.{arith}
 use mathlib.Core.Path.{◌≡◌, refl, sym, ap, subst, ◌∙◌}
 use mathlib.Core.Bool.{Bool, true, false, cond}
@@ -8,12 +8,12 @@ use lib.Dec.{leb, eqb}
 use lib.ListN.{length, take}
 use lib.Seq.{length-take-le}
 use borrow.Author.Tests.{eqb-true, eqb-false, le-leb, lt-ltb, eq-eqb}
+use Rattle.std.specs.Prelude.{Option}
 use Rattle.card.specs.Card.{bits_of_bytes, Card, read, read_card, number_count, bytes_for, card_bits, written_card}
 use Rattle.card.specs.Fields.{field_at, fields_at, bit_count, card_at}
-use Rattle.card.specs.Outcome.{answer_of, rows_of, cols_of}
+use Rattle.card.specs.Outcome.{answer_of, head_of}
 use Rattle.card_writer.specs.Outcome.{is_written, WriteOutcome}
 use Rattle.card_writer.specs.RoundTrip.{AreBytes, Fits}
-use Rattle.card_writer.specs.declared.Written.{Written}
 use Rattle.bits.proofs.Bits.{bits_length}
 use Rattle.card.proofs.Bits.{fields_length}
 use Rattle.card.proofs.Binary.{bytes_binary, field_below, fields_below}
@@ -24,7 +24,7 @@ use Rattle.card_writer.proofs.Writing.{written_is, written_length}
 
 -- ---- any two outcomes that a contract allows coincide
 
-pub any_two_writings_coincide : {k : Card} {bytes : List ℕ} {a b : Written} {x y : List ℕ} → WriteOutcome k bytes a x → WriteOutcome k bytes b y → (a ≡ b) × (x ≡ y)
+pub any_two_writings_coincide : {k : Card} {bytes : List ℕ} {a b : Option ℕ} {x y : List ℕ} → WriteOutcome k bytes a x → WriteOutcome k bytes b y → (a ≡ b) × (x ≡ y)
 any_two_writings_coincide p q = (p.answered ∙ sym q.answered, p.bytes_left ∙ sym q.bytes_left)
 
 -- ---- "Any card that is read, written back by a writer you add, gives the same bytes."
@@ -80,7 +80,7 @@ module _ (bytes : List ℕ) (n m : ℕ) (found : Found bytes n m) where
 
 pub read_then_written_is_the_same : (bytes : List ℕ) (k : Card) → AreBytes bytes → read_card bytes ≡ read k → written_card k ≡ bytes
 read_then_written_is_the_same bytes k below e =
-    let found = found_at bytes k.packed (rows_of k) (cols_of k) (length k.words) k.max_iter k.sweep_limit (ap answer_of e) in
+    let found = found_at bytes (head_of k) (ap answer_of e) in
     let n = field_at 5 6 (bits_of_bytes bytes) in
     let m = field_at 11 6 (bits_of_bytes bytes) in
     let is : k ≡ card_at n m (bits_of_bytes bytes) = cc found.is in
@@ -111,7 +111,7 @@ fits_found bytes n m found =
 
 pub what_is_read_fits : (bytes : List ℕ) (k : Card) → read_card bytes ≡ read k → Fits k
 what_is_read_fits bytes k e =
-    let found = found_at bytes k.packed (rows_of k) (cols_of k) (length k.words) k.max_iter k.sweep_limit (ap answer_of e) in
+    let found = found_at bytes (head_of k) (ap answer_of e) in
     let n = field_at 5 6 (bits_of_bytes bytes) in
     let m = field_at 11 6 (bits_of_bytes bytes) in
     let is : k ≡ card_at n m (bits_of_bytes bytes) = cc found.is in

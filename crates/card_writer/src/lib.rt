@@ -1,56 +1,44 @@
 // The writer of a card file: a card's bits by their places, eight to a byte.
 #![tactic(auto)]
 
-ghost use Rattle.std.specs.Prelude.{◌<◌, ◌≤◌, ◌≡◌, cond, ◌++◌, length, drop, get_or};
+ghost use Rattle.std.specs.Prelude.{◌<◌, ◌≤◌, ◌≡◌, cond, length, get_or};
+ghost use Rattle.rules.specs.Refusals.{is_packed};
 ghost use Rattle.card.specs.Card.{bytes_of, card_bits};
 ghost use Rattle.card_writer.specs.Bytes.{byte_at};
 ghost use Rattle.card_writer.specs.Outcome.{card_of, WriteOutcome};
 
 use bits::bit_of;
-use card::stored;
-use rules::{Cols, Rows};
-
-// How many bytes were written.
-#[derive(Clone, Copy)]
-pub enum Written {
-    No,
-    Bytes(usize),
-}
+use card::{CardHead, stored};
+use rules::Storage;
 
 // The packed flag.
-fn flag_of(packed: bool) -> u64
-    ensures { result ≡ cond packed 1 0 }
+fn flag_of(storage: Storage) -> u64
+    ensures { result ≡ cond (is_packed storage) 1 0 }
 {
-    if packed { 1 } else { 0 }
+    match storage {
+        Storage::Dense => 0,
+        Storage::Packed => 1,
+    }
 }
 
 // The bit at a place of a card, 0 past its end.
-fn card_bit(
-    packed: bool,
-    rows: Rows,
-    cols: Cols,
-    words: &[u16],
-    max_iter: u64,
-    sweep_limit: u64,
-    numbers: &[u64],
-    at: usize,
-) -> u64
+fn card_bit(head: CardHead, words: &[u16], numbers: &[u64], at: usize) -> u64
     requires words_len_bound { length words.now ≤ 63 }
     requires numbers_len_bound { length numbers.now ≤ 1091 }
-    ensures value { result ≡ get_or (card_bits (card_of packed rows cols words.now max_iter sweep_limit numbers.now)) at 0 }
+    ensures value { result ≡ get_or (card_bits (card_of head words.now numbers.now)) at 0 }
     ensures bound { result < 2 }
 {
     if at < 4 {
         return bit_of(1, 4, at);
     }
     if at < 5 {
-        return bit_of(flag_of(packed), 1, at - 4);
+        return bit_of(flag_of(head.storage), 1, at - 4);
     }
     if at < 11 {
-        return bit_of(cols.0 as u64, 6, at - 5);
+        return bit_of(head.cols.0 as u64, 6, at - 5);
     }
     if at < 17 {
-        return bit_of(rows.0 as u64, 6, at - 11);
+        return bit_of(head.rows.0 as u64, 6, at - 11);
     }
     if at < 23 {
         return bit_of(words.len() as u64, 6, at - 17);
@@ -60,11 +48,11 @@ fn card_bit(
         return bit_of(words[(at - 23) / 16] as u64, 16, (at - 23) % 16);
     }
     if at < after_words + 20 {
-        return bit_of(max_iter, 20, at - after_words);
+        return bit_of(head.max_iter, 20, at - after_words);
     }
     let first = after_words + 20 + 7;
     if at < first {
-        return bit_of(sweep_limit, 7, at - (after_words + 20));
+        return bit_of(head.sweep_limit, 7, at - (after_words + 20));
     }
     if at < first + 64 * numbers.len() {
         return bit_of(numbers[(at - first) / 64], 64, (at - first) % 64);
@@ -73,115 +61,51 @@ fn card_bit(
 }
 
 // A byte of a card, zero bits after the last.
-fn card_byte(
-    packed: bool,
-    rows: Rows,
-    cols: Cols,
-    words: &[u16],
-    max_iter: u64,
-    sweep_limit: u64,
-    numbers: &[u64],
-    i: usize,
-) -> u64
+fn card_byte(head: CardHead, words: &[u16], numbers: &[u64], i: usize) -> u64
     requires words_len_bound { length words.now ≤ 63 }
     requires numbers_len_bound { length numbers.now ≤ 1091 }
     requires i_bound { i < 8861 }
-    ensures value { result ≡ byte_at (card_bits (card_of packed rows cols words.now max_iter sweep_limit numbers.now)) i }
+    ensures value { result ≡ byte_at (card_bits (card_of head words.now numbers.now)) i }
     ensures bound { result < 256 }
 {
     let mut v: u64 = 0;
+    // The byte and k make the bit's place: numbers in any form.
     for k in 0..8usize {
-        v = v * 2
-            + card_bit(
-                packed,
-                rows,
-                cols,
-                words,
-                max_iter,
-                sweep_limit,
-                numbers,
-                8 * i + k,
-            );
+        v = v * 2 + card_bit(head, words, numbers, 8 * i + k);
     }
     v
 }
 
-// Writes so many bytes of a card.
-fn write_bytes(
-    packed: bool,
-    rows: Rows,
-    cols: Cols,
-    words: &[u16],
-    max_iter: u64,
-    sweep_limit: u64,
-    numbers: &[u64],
-    bytes: &mut [u8],
-    count: usize,
-)
+// Writes bytes of a card, as many as there are places.
+fn write_bytes(head: CardHead, words: &[u16], numbers: &[u64], bytes: &mut [u8])
     requires words_len_bound { length words.now ≤ 63 }
     requires numbers_len_bound { length numbers.now ≤ 1091 }
-    requires count_bound { count ≤ 8861 }
-    requires count_in_bounds { count ≤ length bytes.old }
-    ensures { bytes.new
-        ≡ bytes_of count
-        (card_bits (card_of packed rows cols words.now max_iter sweep_limit numbers.now))
-        ++ drop count bytes.old }
+    requires count_bound { length bytes.old ≤ 8861 }
+    ensures { bytes.new ≡ bytes_of (length bytes.old) (card_bits (card_of head words.now numbers.now)) }
 {
-    for i in 0..count {
-        bytes[i] = card_byte(packed, rows, cols, words, max_iter, sweep_limit, numbers, i) as u8;
+    for (i, byte) in bytes.iter_mut().enumerate() {
+        *byte = card_byte(head, words, numbers, i) as u8;
     }
 }
 
-// Writes a card into a buffer. It answers a plain no, and changes nothing, where a field does not
-// hold what it is to say, the numbers are not as many as n and m ask, or the buffer is too small.
-pub fn write_card(
-    packed: bool,
-    rows: Rows,
-    cols: Cols,
-    words: &[u16],
-    max_iter: u64,
-    sweep_limit: u64,
-    numbers: &[u64],
-    bytes: &mut [u8],
-) -> Written
-    ensures { WriteOutcome
-        (card_of packed rows cols words.now max_iter sweep_limit numbers.now)
-        bytes.old result bytes.new }
+// Writes a card into a buffer and answers how many bytes it has. The words are all of the slice, whatever number of
+// them the head says. Nothing is written where a field does not hold what it is to say, the numbers are not as many
+// as n and m ask, or the buffer is too small.
+pub fn write_card(head: CardHead, words: &[u16], numbers: &[u64], bytes: &mut [u8]) -> Option<usize>
+    ensures { WriteOutcome (card_of head words.now numbers.now) bytes.old result bytes.new }
 {
-    let n = cols.0;
-    let m = rows.0;
-    if n > 32 {
-        return Written::No;
+    let n = head.cols.0;
+    let m = head.rows.0;
+    if n > 32 || m > 32 || words.len() > 63 || head.max_iter >= 1048576 || head.sweep_limit >= 128 {
+        return None;
     }
-    if m > 32 {
-        return Written::No;
-    }
-    if words.len() > 63 {
-        return Written::No;
-    }
-    if max_iter >= 1048576 {
-        return Written::No;
-    }
-    if sweep_limit >= 128 {
-        return Written::No;
-    }
-    if numbers.len() != 3 + n + stored(packed, rows, cols) + m {
-        return Written::No;
+    if numbers.len() != 3 + n + stored(head.storage, head.rows, head.cols) + m {
+        return None;
     }
     let count = (23 + 16 * words.len() + 20 + 7 + 64 * numbers.len() + 7) / 8;
     if bytes.len() < count {
-        return Written::No;
+        return None;
     }
-    write_bytes(
-        packed,
-        rows,
-        cols,
-        words,
-        max_iter,
-        sweep_limit,
-        numbers,
-        bytes,
-        count,
-    );
-    Written::Bytes(count)
+    write_bytes(head, words, numbers, &mut bytes[..count]);
+    Some(count)
 }

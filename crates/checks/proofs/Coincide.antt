@@ -4,12 +4,11 @@ use mathlib.Core.Path.{◌≡◌}
 use mathlib.Core.List.{List}
 use lib.Ieee.{Float}
 use Rattle.rules.specs.declared.Cols.{Cols}
-use Rattle.rules.specs.declared.Refusal.{Refusal}
 use Rattle.rules.specs.declared.Rows.{Rows}
 use Rattle.rules.specs.declared.SolverParam.{SolverParam}
 use Rattle.rules.specs.declared.Storage.{Storage}
 use Rattle.rules.specs.Problem.{problem_of}
-use Rattle.rules.specs.Refusals.{refusal}
+use Rattle.rules.specs.Refusals.{Refusal, refusal}
 use Rattle.rules.specs.Split.{SplitProblem, split_refusal}
 use Rattle.rules.proofs.Outcome.{results_coincide}
 

@@ -15,12 +15,10 @@ use Rattle.rules.specs.declared.SolverParam.{SolverParam}
 use Rattle.rules.specs.declared.Shape.{Shape}
 use Rattle.rules.specs.declared.Storage.{Storage}
 use Rattle.rules.specs.declared.Storage.TheVariants.{Dense, Packed}
-use Rattle.rules.specs.declared.Refusal.{Refusal}
-use Rattle.rules.specs.declared.Refusal.TheVariants.{Accepted, Refused}
 use Rattle.rules.specs.Limits.{limit, most_words}
 use Rattle.rules.specs.Matrices.{triangle}
 use Rattle.rules.specs.Groups.{plain_words}
-use Rattle.rules.specs.Refusals.{Fact, ◌when◌, first_of, as_refusal, bad_param, large_sizes, wrong_lengths, refusal}
+use Rattle.rules.specs.Refusals.{Refusal, Accepted, Refused, Fact, ◌when◌, first_of, as_refusal, bad_param, large_sizes, wrong_lengths, refusal}
 use Rattle.rules.specs.Problem.{Slices, slices, problem_of}
 use Rattle.rules.specs.Split.{split_lengths, split_of, split_refusal}
 use Rattle.rules.proofs.Matrices.{neither}

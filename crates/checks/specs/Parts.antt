@@ -2,13 +2,12 @@
 use Rattle.std.specs.Prelude.{ℕ, not, List, [], ◌∷◌, Float}
 use Rattle.rules.specs.declared.Ending.{Ending}
 use Rattle.rules.specs.declared.Ending.TheVariants.{BadParam, TooLarge, InvalidOp, BadCone, NotFinite, WorkShortage}
-use Rattle.rules.specs.declared.Refusal.{Refusal}
 use Rattle.rules.specs.declared.Shape.{Shape}
 use Rattle.rules.specs.declared.SolverParam.{SolverParam}
 use Rattle.rules.specs.Blocks.{is_bad_cone}
 use Rattle.rules.specs.Groups.{plain_words}
 use Rattle.rules.specs.Problem.{Slices, joined}
-use Rattle.rules.specs.Refusals.{Fact, ◌when◌, first_of, as_refusal, bad_param, large_sizes, some_not_finite, short_buffers}
+use Rattle.rules.specs.Refusals.{Refusal, Fact, ◌when◌, first_of, as_refusal, bad_param, large_sizes, some_not_finite, short_buffers}
 use Rattle.shape.specs.Fitting.{operators_fit}
 
 -- the last three rows, over the plain words of the list

@@ -9,8 +9,8 @@ ghost use Rattle.rules.specs.Split.{split_of, split_refusal};
 ghost use Rattle.checks.specs.Parts.{plain_refusal, parts_refusal};
 
 use finite::all_finite;
-use rules::{Cols, Ending, LIMIT, MOST_WORDS, Refusal, Rows, Shape, SolverParam, Storage};
-use shape::operators_fit;
+use rules::{Cols, Ending, LIMIT, MOST_WORDS, Rows, Shape, SolverParam, Storage};
+use shape::{Operators, operators_fit};
 
 // The first test that applies.
 pub fn check(
@@ -24,7 +24,7 @@ pub fn check(
     words: &[u16],
     work: usize,
     cone_work: usize,
-) -> Refusal
+) -> Result<(), Ending>
     ensures { result
         ≡ refusal
         (problem_of rows.0 cols.0 storage c.now a.now b.now
@@ -37,7 +37,7 @@ pub fn check(
         storage,
         first: cols,
     };
-    check_parts(par, shape, c, a, &a[..0], b, words, work, cone_work)
+    check_parts(par, shape, c, a, &[], b, words, work, cone_work)
 }
 
 // The first test that applies to a problem whose dense A stands in two slices.
@@ -53,7 +53,7 @@ pub fn check_split(
     words: &[u16],
     work: usize,
     cone_work: usize,
-) -> Refusal
+) -> Result<(), Ending>
     ensures { result
         ≡ split_refusal
         (split_of rows.0 cols.0 first.0 c.now factory.now lesson.now
@@ -80,7 +80,7 @@ fn check_parts(
     words: &[u16],
     work: usize,
     cone_work: usize,
-) -> Refusal
+) -> Result<(), Ending>
     ensures { result
         ≡ parts_refusal par shape c.now (slices a1.now a2.now) b.now
         words.now work cone_work }
@@ -90,17 +90,23 @@ fn check_parts(
     let param_is_bad = parameters::bad_param(par);
     let size_is_too_large = too_large(m, n, words);
     if param_is_bad {
-        return Refusal::Refused(Ending::BadParam);
+        return Err(Ending::BadParam);
     }
     if size_is_too_large {
-        return Refusal::Refused(Ending::TooLarge);
+        return Err(Ending::TooLarge);
     }
-    if !operators_fit(shape, c, a1, a2, b) {
-        return Refusal::Refused(Ending::InvalidOp);
+    let operators = Operators {
+        shape,
+        c,
+        a1,
+        a2,
+        b,
+    };
+    if !operators_fit(&operators) {
+        return Err(Ending::InvalidOp);
     }
     let mut plain = [0u16; MOST_WORDS];
-    let flattened = groups::flatten(words, &mut plain);
-    let count = groups::count_of(flattened);
+    let count = groups::flatten(words, &mut plain).unwrap_or(0);
     check_plain(m, n, c, a1, a2, b, &plain[..count], work, cone_work)
 }
 
@@ -115,7 +121,7 @@ fn check_plain(
     words: &[u16],
     work: usize,
     cone_work: usize,
-) -> Refusal
+) -> Result<(), Ending>
     requires { (m ≤ limit) × (n ≤ limit) }
     ensures { result
         ≡ plain_refusal m n c.now (joined (slices a1.now a2.now)) b.now
@@ -124,52 +130,35 @@ fn check_plain(
     let cone_is_bad = words::is_bad_cone(words, m);
     let number_is_not_finite = not_finite(c, a1, a2, b);
     if cone_is_bad {
-        return Refusal::Refused(Ending::BadCone);
+        return Err(Ending::BadCone);
     }
     if number_is_not_finite {
-        return Refusal::Refused(Ending::NotFinite);
+        return Err(Ending::NotFinite);
     }
     if work_shortage(m, n, words, work, cone_work) {
-        return Refusal::Refused(Ending::WorkShortage);
+        return Err(Ending::WorkShortage);
     }
-    Refusal::Accepted
+    Ok(())
 }
 
 fn too_large(m: usize, n: usize, words: &[u16]) -> bool
     ensures { result ≡ large_sizes m n words.now }
 {
-    if n > LIMIT {
-        return true;
-    }
-    if m > LIMIT {
-        return true;
-    }
-    words.len() > MOST_WORDS
+    n > LIMIT || m > LIMIT || words.len() > MOST_WORDS
 }
 
+#[tactic(auto, using(crate::proofs::Finite::finite_joined))]
 fn not_finite(c: &[f64], a1: &[f64], a2: &[f64], b: &[f64]) -> bool
     ensures { result
         ≡ some_not_finite c.now (joined (slices a1.now a2.now))
         b.now }
 {
-    if !all_finite(c) {
-        return true;
-    }
-    if !all_finite(a1) {
-        return true;
-    }
-    if !all_finite(a2) {
-        return true;
-    }
-    !all_finite(b)
+    !all_finite(c) || !all_finite(a1) || !all_finite(a2) || !all_finite(b)
 }
 
 fn work_shortage(m: usize, n: usize, words: &[u16], work: usize, cone_work: usize) -> bool
     requires { (m ≤ limit) × (n ≤ limit) }
     ensures { result ≡ short_buffers m n words.now work cone_work }
 {
-    if work < 6 * n + 10 * m + 6 {
-        return true;
-    }
-    cone_work < words::cone_work_len(words)
+    work < 6 * n + 10 * m + 6 || cone_work < words::cone_work_len(words)
 }

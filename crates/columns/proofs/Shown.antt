@@ -1,59 +1,31 @@
 -- A dense matrix in two slices: its columns stand in the slices, and its lines add up to those of the joined matrix.
 use Prim.Native.Nat.{ℕ, ◌+◌, ◌-◌, ◌*◌, ◌<◌, ◌≤◌}
-use native.Mathlib.Nat.{mul-le-mul}
 use native.Mathlib.Omega.{arith}
 use mathlib.Core.Path.{◌≡◌, refl, sym, ap, subst, ◌∙◌}
 use mathlib.Core.Bool.{Bool, true, false}
-use mathlib.Core.List.{List, [], ◌++◌}
+use mathlib.Core.List.{List, ◌++◌}
 use borrow.Author.Tests.{ltb-true, ltb-false, lt-ltb, le-ltb}
-use mir.Syntax.{w64}
-use mir.Val.{Fits}
 use lib.Dec.{ltb}
 use lib.Ieee.{Float}
 use lib.ListN.{length, set}
 use Rattle.rules.specs.declared.Rows.{Rows}
 use Rattle.rules.specs.declared.Cols.{Cols}
 use Rattle.rules.specs.declared.MatType.TheVariants.{General}
-use Rattle.rules.specs.Limits.{limit}
 use Rattle.rules.specs.Helpers.{magnitude}
 use Rattle.rules.specs.Arithmetic.{◌+ᶠ◌, +0, at, sum_to, sum_from, each}
 use Rattle.rules.specs.Vectors.{abssum}
 use Rattle.rules.specs.Step.{part}
 use Rattle.rules.specs.Matrices.{entry, transposed, col_sum, absadded_cols, absadded_rows}
-use Rattle.rules.specs.Split.{split_fits, SplitStored, column_shown}
+use Rattle.rules.specs.Split.{SplitStored, column_shown}
 use Rattle.rules.proofs.Arithmetic.{sum_same, each_same, Reached, reached_more}
 use Rattle.rules.proofs.Vectors.{abssum_of_part}
 use Rattle.rules.proofs.Parts.{places}
 use Rattle.rules.proofs.Slices.{split_fits_lem, sum_on, columns_all, first_inside, rest_inside, first_number, rest_number}
 
-square_within : (a b : ℕ) → a ≤ limit → b ≤ limit → a * b ≤ limit * limit
-square_within a b h l = mul-le-mul h l
-
--- a place of a matrix within the limits can be counted, in numbers and in bytes
-module _ (a b : ℕ) (a_within : a ≤ limit) (b_within : b ≤ limit) where
-  pub start_counted : Fits w64 (a * b)
-  start_counted = record { fits = omega (arith, square_within a b a_within b_within) }
-
-  pub end_counted : (r : ℕ) → r ≤ limit → Fits w64 (a * b + r)
-  end_counted r h = record { fits = omega (arith, square_within a b a_within b_within) }
-
-  pub bytes_counted : Fits w64 (a * b * 8)
-  bytes_counted = record { fits = omega (arith, square_within a b a_within b_within) }
-
 -- a part of a slice, number by number
 part-sum : (xs : List Float) (start m : ℕ) → start + m ≤ length xs → abssum (part start m xs) 1 ≡ sum_to m (λ r. magnitude (at xs (start + r)))
 part-sum xs start m h =
     subst (λ (k : ℕ). abssum (part start k xs) 1 ≡ sum_to m (λ r. magnitude (at xs (start + r)))) (places start m) (abssum_of_part xs start (start + m) m refl h)
-
--- nothing is shown where the slices do not fit, or there is no such column
-module _ (m n n1 : ℕ) (factory lesson : List Float) (k : ℕ) where
-  pub none_shown : split_fits m n n1 factory lesson ≡ false → column_shown m n n1 factory lesson k ≡ []
-  unfolding column_shown
-  none_shown e = rw e
-
-  pub none_beyond : split_fits m n n1 factory lesson ≡ true → n ≤ k → column_shown m n n1 factory lesson k ≡ []
-  unfolding column_shown
-  none_beyond e h = rw (e, le-ltb k n h)
 
 module _ {m n n1 : ℕ} {factory lesson : List Float} (s : SplitStored m n n1 factory lesson) where
   -- which part is shown

@@ -16,6 +16,7 @@ use rules::{Cols, MatType, Rows, Shape, Storage};
 
 // The column asked for, as a part of whichever slice holds it; empty where a slice's length is wrong, a size is above the limit, or there
 // is no such column.
+#[tactic(auto, unfolding(rules::specs::Split::column_shown))]
 pub fn column<'a>(
     rows: Rows,
     cols: Cols,
@@ -27,42 +28,40 @@ pub fn column<'a>(
     ensures { result.now
         ≡ column_shown rows.0 cols.0 first.0 factory.now lesson.now k }
 {
-    if !matrix::split_fits(rows, cols, first, factory, lesson) {
-        return &factory[..0];
-    }
-    if k >= cols.0 {
-        return &factory[..0];
+    if !matrix::split_fits(rows, cols, first, factory, lesson) || k >= cols.0 {
+        return &[];
     }
     let m = rows.0;
     let n1 = first.0;
     if k < n1 {
         let start = k * m;
-        let end = start + m;
-        return &factory[start..end];
+        &factory[start..start + m]
+    } else {
+        let start = (k - n1) * m;
+        &lesson[start..start + m]
     }
-    let start = (k - n1) * m;
-    let end = start + m;
-    &lesson[start..end]
 }
 
-// The absolute sum of each column of A is added to y.
-pub fn absadd_cols<'a>(shape: Shape, a1: &'a [f64], a2: &'a [f64], y: &mut [f64]) -> bool
+// The absolute sum of each column of A is added to y. This and absadd_rows stay two: a test, and then calls that differ in each arm.
+pub fn absadd_cols(shape: Shape, a1: &[f64], a2: &[f64], y: &mut [f64]) -> bool
     ensures { let a = slices a1.now a2.now in
         Outcome (lines_fit false shape a y.old)
         (absadded_cols (matrix_in shape) (joined a) y.old) y.old result y.new }
 {
-    if !shape::parts_fit(shape, a1, a2) {
+    let Shape {
+        rows,
+        cols,
+        storage,
+        first,
+    } = shape;
+    if !shape::parts_fit(shape, a1, a2) || y.len() != cols.0 {
         return false;
     }
-    let rows = shape.rows;
-    let cols = shape.cols;
-    let first = shape.first;
-    if y.len() != cols.0 {
-        return false;
-    }
-    let storage = shape.storage;
     match storage {
-        Storage::Dense => dense_cols(rows, cols, first, a1, a2, y),
+        Storage::Dense => {
+            dense_cols(rows, cols, first, a1, a2, y);
+            true
+        }
         Storage::Packed => absadd::absadd_cols(MatType::SymPack(rows), a1, y),
     }
 }
@@ -73,65 +72,49 @@ pub fn absadd_rows(shape: Shape, a1: &[f64], a2: &[f64], y: &mut [f64]) -> bool
         Outcome (lines_fit true shape a y.old)
         (absadded_rows (matrix_in shape) (joined a) y.old) y.old result y.new }
 {
-    if !shape::parts_fit(shape, a1, a2) {
+    let Shape {
+        rows,
+        cols,
+        storage,
+        first,
+    } = shape;
+    if !shape::parts_fit(shape, a1, a2) || y.len() != rows.0 {
         return false;
     }
-    let rows = shape.rows;
-    let cols = shape.cols;
-    let first = shape.first;
-    if y.len() != rows.0 {
-        return false;
-    }
-    let storage = shape.storage;
     match storage {
-        Storage::Dense => dense_rows(rows, cols, first, a1, a2, y),
+        Storage::Dense => {
+            dense_rows(rows, cols, first, a1, a2, y);
+            true
+        }
         Storage::Packed => absadd::absadd_rows(MatType::SymPack(rows), a1, y),
     }
 }
 
 // The sums of the columns of a dense matrix: each column is handed on where it stands.
-fn dense_cols<'a>(
-    rows: Rows,
-    cols: Cols,
-    first: Cols,
-    factory: &'a [f64],
-    lesson: &'a [f64],
-    y: &mut [f64],
-) -> bool
+fn dense_cols(rows: Rows, cols: Cols, first: Cols, factory: &[f64], lesson: &[f64], y: &mut [f64])
     requires split_stored { SplitStored rows.0 cols.0 first.0 factory.now lesson.now }
     requires y_len { length y.old ≡ cols.0 }
-    ensures answers { result ≡ true }
-    ensures y_left { y.new
+    ensures { y.new
         ≡ absadded_cols (General rows cols) (factory.now ++ lesson.now) y.old }
 {
-    for k in 0..y.len() {
-        y[k] = sums::abssum(column(rows, cols, first, factory, lesson, k), 1) + y[k];
+    for (k, v) in y.iter_mut().enumerate() {
+        *v = sums::abssum(column(rows, cols, first, factory, lesson, k), 1) + *v;
     }
-    true
 }
 
 // The sums of its rows: each runs on from the first slice into the second.
-fn dense_rows(
-    rows: Rows,
-    cols: Cols,
-    first: Cols,
-    factory: &[f64],
-    lesson: &[f64],
-    y: &mut [f64],
-) -> bool
+fn dense_rows(rows: Rows, cols: Cols, first: Cols, factory: &[f64], lesson: &[f64], y: &mut [f64])
     requires split_stored { SplitStored rows.0 cols.0 first.0 factory.now lesson.now }
     requires y_len { length y.old ≡ rows.0 }
-    ensures answers { result ≡ true }
-    ensures y_left { y.new
+    ensures { y.new
         ≡ absadded_rows (General rows cols) (factory.now ++ lesson.now) y.old }
 {
     let n1 = first.0;
     let n2 = cols.0 - n1;
-    for r in 0..y.len() {
+    for (r, v) in y.iter_mut().enumerate() {
         let so_far = row_sum(0.0, rows, factory, n1, r);
-        y[r] = row_sum(so_far, rows, lesson, n2, r) + y[r];
+        *v = row_sum(so_far, rows, lesson, n2, r) + *v;
     }
-    true
 }
 
 // The absolute sum of row r of so many columns, added to the sum so far.
@@ -144,8 +127,9 @@ fn row_sum(so_far: f64, rows: Rows, mat: &[f64], cols: usize, r: usize) -> f64
 {
     let m = rows.0;
     let mut sum = so_far;
+    // row and column make the place: an index in any form
     for c in 0..cols {
-        sum = sum + float::magnitude(mat[c * m + r]);
+        sum += float::magnitude(mat[c * m + r]);
     }
     sum
 }

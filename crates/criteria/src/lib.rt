@@ -16,17 +16,11 @@ ghost use Rattle.criteria.specs.Residuals.{primal_at, dual_at, ray_at, dual_ray_
 ghost use Rattle.criteria.specs.Judging.{judge_fits, JudgeOutcome};
 
 use rules::{Criteria, Norms, Shape, SolverParam};
-use shape::{column, fits_x, operators_fit};
-
-// What a step's criteria are, or a plain no.
-#[derive(Clone, Copy)]
-pub enum Judgement {
-    Of(Criteria),
-    No,
-}
+use shape::{Operators, column, fits_x, operators_fit};
 
 // The criteria of a step, by tau: at the front of rx stand the residuals afterwards. Where a length or a size doesn't
 // fit, it answers no and changes nothing.
+#[tactic(auto, using(shape::proofs::Fitting::fits_of))]
 pub fn judge(
     par: SolverParam,
     shape: Shape,
@@ -37,7 +31,7 @@ pub fn judge(
     norms: Norms,
     x: &[f64],
     rx: &mut [f64],
-) -> Judgement
+) -> Option<Criteria>
     ensures { JudgeOutcome
         (judge_fits shape c.now (slices a1.now a2.now) b.now
         x.now rx.old)
@@ -47,13 +41,13 @@ pub fn judge(
         rx.old result rx.new }
 {
     if !fits(shape, c, a1, a2, b, x, rx) {
-        return Judgement::No;
+        return None;
     }
-    let r = judge_by_tau(par, shape, c, a1, a2, b, norms, x, rx);
-    Judgement::Of(r)
+    Some(judge_by_tau(par, shape, c, a1, a2, b, norms, x, rx))
 }
 
 // The criteria of convergence where tau is above eps_zero, else the two others.
+#[tactic(auto, unfolding(rules::specs::Criteria::judged))]
 fn judge_by_tau(
     par: SolverParam,
     shape: Shape,
@@ -91,13 +85,14 @@ fn fits(shape: Shape, c: &[f64], a1: &[f64], a2: &[f64], b: &[f64], x: &[f64], r
     ensures { result ≡ judge_fits shape c.now (slices a1.now a2.now) b.now
         x.now rx.now }
 {
-    if !operators_fit(shape, c, a1, a2, b) {
-        return false;
-    }
-    if !fits_x(shape, x) {
-        return false;
-    }
-    fits_x(shape, rx)
+    operators_fit(&Operators {
+        shape,
+        c,
+        a1,
+        a2,
+        b,
+    }) && fits_x(shape, x)
+        && fits_x(shape, rx)
 }
 
 // The three criteria of convergence, where tau is above eps_zero.
@@ -197,6 +192,7 @@ fn dual_residual(
 }
 
 // The gap between c * x / tau and -b * y / tau, which are g_x and -g_y.
+#[tactic(auto, unfolding(rules::specs::Helpers::one))]
 fn gap(g_x: f64, g_y: f64) -> f64
     ensures { result ≡ magnitude (g_x +ᶠ g_y) /ᶠ (one +ᶠ magnitude g_x +ᶠ magnitude g_y) }
 {
@@ -308,6 +304,7 @@ fn dual_ray(edition: u32, shape: Shape, a1: &[f64], a2: &[f64], x: &[f64], d: &m
 }
 
 // A norm times another, over a number above eps_zero; infinite if it is not above.
+#[tactic(auto, unfolding(rules::specs::Criteria::ratio))]
 fn ratio(eps_zero: f64, residual: f64, norm: f64, by: f64) -> f64
     ensures { result ≡ rules.ratio eps_zero residual norm by }
 {

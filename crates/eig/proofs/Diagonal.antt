@@ -3,11 +3,11 @@ use Prim.Native.Nat.{ℕ, ◌+◌, ◌*◌, ◌<◌, ◌≤◌}
 use native.Mathlib.Omega.{arith}
 use mathlib.Core.Path.{◌≡◌, refl, sym, ◌∙◌, ap}
 use mathlib.Core.Bool.{cond}
-use mathlib.Core.List.{List}
+use mathlib.Core.List.{List, [], ◌∷◌}
 use borrow.Author.Tests.{lt-ltb, le-ltb, eq-eqb, ne_eqb}
 use lib.Dec.{ltb, eqb}
 use lib.Ieee.{Float}
-use lib.ListN.{length, set, length-set}
+use lib.ListN.{length, set, replicate, length-set}
 use Rattle.rules.specs.Limits.{limit}
 use Rattle.rules.specs.Helpers.{one}
 use Rattle.rules.specs.Arithmetic.{◌*ᶠ◌, +0, at, each}
@@ -17,6 +17,8 @@ use Rattle.rules.specs.Projections.{diagonal_times, unit}
 use Rattle.rules.proofs.Arithmetic.{each-length, each_at}
 use Rattle.rules.proofs.Columns.{by_less, by_same, packed_self, packed_same, packed-at, packed-set, square_is, square_same, square-set, square_inside}
 use Rattle.rules.proofs.Matrices.{square_small}
+use Rattle.rules.proofs.Triangle.{triangle_inside}
+use Rattle.jacobi.specs.Sizes.{IsPacked}
 
 -- The first k entries of the diagonal hold what f says, and the other entries what they held.
 abbrev diagonal_to : (ℕ → ℕ → Float) → (ℕ → ℕ → Float) → ℕ → ℕ → ℕ → Float
@@ -114,3 +116,17 @@ pub unit_all : {n k : ℕ} {z : List Float} → UnitTo n k z → n ≤ k → z �
 unfolding unit
 unit_all {n} {k} {z} r h =
     r.is ∙ square_same n _ _ (λ p q hp hq. diagonal_last (λ r c. one) (λ r c. +0) k p q (omega arith))
+
+-- ---- places
+
+pub diagonal_inside : {n : ℕ} {x : List Float} → IsPacked n x → (k : ℕ) → k < n → triangle k + k < length x
+diagonal_inside {n} f k h = omega (arith, triangle_inside k n h, f.stored)
+
+-- every place +0
+filled : (x : List Float) → replicate (length x) +0 ≡ each (λ k v. +0) x
+unfolding each
+filled [] = refl
+filled (v ∷ x) = ap (λ (l : List Float). +0 ∷ l) (filled x)
+
+pub cleared : {x' : List Float} (x : List Float) → x' ≡ replicate (length x) +0 → x' ≡ each (λ k v. +0) x
+cleared x e = e ∙ filled x

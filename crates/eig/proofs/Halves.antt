@@ -4,6 +4,7 @@ use native.Mathlib.Omega.{arith}
 use mathlib.Core.Path.{◌≡◌, refl, sym, ◌∙◌, ap}
 use mathlib.Core.Bool.{Bool, true, false, cond, ◌&&◌}
 use mathlib.Core.List.{List, ◌++◌, append_assoc}
+use Rattle.std.specs.Prelude.{Option, Some, None}
 use borrow.Author.Tests.{leb-true, eqb-true, le-leb, eq-eqb}
 use borrow.Rule.Slice.PartMut.{put_mid, post_of, Post-is, take_put, drop_put}
 use lib.Dec.{leb, eqb}
@@ -18,11 +19,11 @@ use Rattle.rules.specs.Jacobi.{Rotating, Swept, packed, in_square, jacobi, sweep
 use Rattle.rules.specs.Projections.{√2, diagonal_times, unit, rebuilt_entry, proj_psd, Projected, block_fits, answer_of, BlockOutcome}
 use Rattle.rules.specs.declared.Cone.TheVariants.{PSD}
 use Rattle.rules.specs.declared.Projection.{Projection}
-use Rattle.rules.specs.declared.Projection.TheVariants.{Done, Failed, No}
+use Rattle.rules.specs.declared.Projection.TheVariants.{Done, Failed}
 use Rattle.rules.specs.declared.SolverParam.{SolverParam}
 use Rattle.rules.proofs.Columns.{tabulate-length, tabulate-at, packed_same, square_inside, in_square-place}
 use Rattle.rules.proofs.Blocks.{order_in_triangle}
-use Rattle.rules.proofs.KernelLengths.{diagonal_times-length, unit-length, Sized, sweeps-sized}
+use Rattle.rules.proofs.KernelLengths.{diagonal_times-length, unit-length, sweeps-sized}
 use Rattle.rules.proofs.Matrices.{both_true}
 use Rattle.jacobi.specs.Sizes.{IsPacked}
 use Rattle.eig.specs.Parts.{SweptBlock, RebuiltBlock, value_of}
@@ -57,10 +58,10 @@ module _ (par : SolverParam) (n : ℕ) (x work x₁ z₁ : List Float) (room : n
   jacobi_fits_lem sized few =
       rw (le-leb n limit sized.order, eq-eqb (length x₁) (triangle n) (ap length is_x ∙ diagonal_times-length √2 n x), eq-eqb (length (part n work z₁)) (n * n) (ap length part_is ∙ unit-length n)) few
 
-  pub swept_block : {x' z' : List Float} {answer : Projection} → IsPacked n x → sweeps_fit par ≡ true → JacobiOutcome (jacobi_fits par n (length x₁) (length (part n work z₁))) (jacobi par n x₁ (part n work z₁)) x₁ (part n work z₁) answer x' z' → SweptBlock n (jacobi par n (diagonal_times √2 n x) (unit n)) work answer x' (put_mid n (n + n * n - n) (put_mid n (n + n * n - n) work z₁) z')
+  pub swept_block : {x' z' : List Float} {answer : Option Projection} → IsPacked n x → sweeps_fit par ≡ true → JacobiOutcome (jacobi_fits par n (length x₁) (length (part n work z₁))) (jacobi par n x₁ (part n work z₁)) x₁ (part n work z₁) answer x' z' → SweptBlock n (jacobi par n (diagonal_times √2 n x) (unit n)) work answer x' (put_mid n (n + n * n - n) (put_mid n (n + n * n - n) work z₁) z')
   swept_block {x'} {z'} {answer} sized few o =
       record {
-        answered = o.answered ∙ ap (λ (t : Bool). cond t (swept_answer (jacobi par n x₁ (part n work z₁))) No) fit ∙ ap swept_answer whole;
+        answered = o.answered ∙ ap (λ (t : Bool). cond t (Some (swept_answer (jacobi par n x₁ (part n work z₁)))) None) fit ∙ ap (λ (s : Swept). Some (swept_answer s)) whole;
         block = o.matrix_left ∙ ap (λ (t : Bool). cond t (jacobi par n x₁ (part n work z₁)).reached.matrix x₁) fit ∙ ap (λ (s : Swept). s.reached.matrix) whole;
         cone_work = put_again n (n * n) work z₁ room many z' ∙ ap (λ (l : List Float). take n work ++ l ++ drop (n + n * n) work) vectors;
         stored = (sweeps-sized n _ par.sweep_limit _ (record { matrix = diagonal_times-length √2 n x; vectors = unit-length n })).vectors;
@@ -146,21 +147,8 @@ projected par n x work b e =
     ap (λ (t : Bool). cond t (done_of n work (swept_of par n x).reached) (failed_of n work (swept_of par n x).reached)) e
 
 -- the answer, the block and cone work are what a projection has
-outcome : {fits : Bool} {ruled : Projected} {block work : List Float} {answer : Projection} {block' work' : List Float} (p : Projected) → fits ≡ true → ruled ≡ p → answer ≡ answer_of p → block' ≡ p.block → work' ≡ p.work → BlockOutcome fits ruled block work answer block' work'
-outcome {fits} {ruled} {block} {work} {answer} {block'} {work'} p fit is a b w =
-    record {
-      answered = a ∙ ap answer_of (sym is) ∙ sym (ap (λ (t : Bool). cond t (answer_of ruled) No) fit);
-      block_left = b ∙ ap (λ (t : Projected). t.block) (sym is) ∙ sym (ap (λ (t : Bool). cond t ruled.block block) fit);
-      work_left = w ∙ ap (λ (t : Projected). t.work) (sym is) ∙ sym (ap (λ (t : Bool). cond t ruled.work work) fit);
-    }
-
-pub refused : {fits : Bool} {ruled : Projected} {block work : List Float} → fits ≡ false → BlockOutcome fits ruled block work No block work
-refused {fits} {ruled} {block} {work} unfit =
-    record {
-      answered = sym (ap (λ (t : Bool). cond t (answer_of ruled) No) unfit);
-      block_left = sym (ap (λ (t : Bool). cond t ruled.block block) unfit);
-      work_left = sym (ap (λ (t : Bool). cond t ruled.work work) unfit);
-    }
+outcome : {fits : Bool} {ruled : Projected} {block work : List Float} {answer : Projection} {block' work' : List Float} (p : Projected) → fits ≡ true → ruled ≡ p → answer ≡ answer_of p → block' ≡ p.block → work' ≡ p.work → BlockOutcome fits ruled block work (Some answer) block' work'
+outcome p fit is a b w = record { answered = rw (fit, is, a); block_left = rw (fit, is) b; work_left = rw (fit, is) w }
 
 -- what the sizes say where they fit
 pub record Fitting (par : SolverParam) (n : ℕ) (x work : List Float) : Type 0 where
@@ -195,29 +183,21 @@ answer_failed s r e = go s.succeeded refl
     go false h = let e' : Failed r ≡ Failed s.reached.rotations = rw h at e in (h, cc)
     go true h = let e' : Failed r ≡ Done s.reached.rotations = rw h at e in let z : ◌≡◌ {A = ℕ} 0 1 = cc in absurd (omega arith)
 
-answer_some : (s : Swept) → No ≡ swept_answer s → ⊥
-answer_some s e = go s.succeeded refl
-  where
-    go : (b : Bool) → s.succeeded ≡ b → ⊥
-    go true h = let e' : No ≡ Done s.reached.rotations = rw h at e in let z : ◌≡◌ {A = ℕ} 0 1 = cc in omega arith
-    go false h = let e' : No ≡ Failed s.reached.rotations = rw h at e in let z : ◌≡◌ {A = ℕ} 0 1 = cc in omega arith
-
-module _ (par : SolverParam) (n : ℕ) (x work : List Float) {fits : Bool} {answer : Projection} {x₁ work₁ : List Float} (fit : fits ≡ true) (first : SweptBlock n (swept_of par n x) work answer x₁ work₁) where
+module _ (par : SolverParam) (n : ℕ) (x work : List Float) {fits : Bool} {answer : Option Projection} {x₁ work₁ : List Float} (fit : fits ≡ true) (first : SweptBlock n (swept_of par n x) work answer x₁ work₁) where
   reached : Rotating
   reached = (swept_of par n x).reached
 
-  pub some : answer ≡ No → ⊥
-  some is = answer_some (swept_of par n x) (sym is ∙ first.answered)
-
-  pub failed : (rotations : ℕ) → answer ≡ Failed rotations → BlockOutcome fits (proj_psd par n x work) x work (Failed rotations) x₁ work₁
+  pub failed : (rotations : ℕ) → answer ≡ Some (Failed rotations) → BlockOutcome fits (proj_psd par n x work) x work (Some (Failed rotations)) x₁ work₁
   failed rotations is =
-      let a = answer_failed (swept_of par n x) rotations (sym is ∙ first.answered) in
+      let e : Some (Failed rotations) ≡ Some (swept_answer (swept_of par n x)) = sym is ∙ first.answered in
+      let a = answer_failed (swept_of par n x) rotations cc in
       outcome (failed_of n work (swept_of par n x).reached) fit (projected par n x work false a.0) (ap Failed a.1) first.block first.cone_work
 
-  pub done : (rotations : ℕ) → answer ≡ Done rotations → (x' work' : List Float) → n + n * n ≤ length work → RebuiltBlock n x₁ work₁ x' work' → BlockOutcome fits (proj_psd par n x work) x work (Done rotations) x' work'
+  pub done : (rotations : ℕ) → answer ≡ Some (Done rotations) → (x' work' : List Float) → n + n * n ≤ length work → RebuiltBlock n x₁ work₁ x' work' → BlockOutcome fits (proj_psd par n x work) x work (Some (Done rotations)) x' work'
   unfolding reached
   done rotations is x' work' room second =
-      let a = answer_done (swept_of par n x) rotations (sym is ∙ first.answered) in
+      let e : Some (Done rotations) ≡ Some (swept_answer (swept_of par n x)) = sym is ∙ first.answered in
+      let a = answer_done (swept_of par n x) rotations cc in
       outcome (done_of n work reached) fit (projected par n x work true a.0) (ap Done a.1) block_is work_is
     where
       kept : drop n work₁ ≡ reached.vectors ++ drop (n + n * n) work

@@ -1,5 +1,5 @@
 -- What the parts of the projection leave.
-use Rattle.std.specs.Prelude.{ℕ, ◌+◌, ◌*◌, ◌≡◌, cond, List, ◌++◌, eqb, Float, length, take, drop}
+use Rattle.std.specs.Prelude.{ℕ, ◌+◌, ◌*◌, ◌≡◌, cond, List, ◌++◌, eqb, Float, length, take, drop, Option, Some}
 use Rattle.std.specs.Float.Ieee.{add, mul}
 use Rattle.rules.specs.Arithmetic.{◌+ᶠ◌, ◌*ᶠ◌, at, by_columns, tabulate}
 use Rattle.rules.specs.Matrices.{entry}
@@ -26,8 +26,8 @@ plus_rank1 e column x = packed (length column) (added e column x)
 -- ---- the two halves of the projection
 
 -- the block and cone work, as the sweeps leave them
-pub record SweptBlock (n : ℕ) (ruled : Swept) (work : List Float) (answer : Projection) (x' work' : List Float) : Type 0 where
-  pub answered : answer ≡ swept_answer ruled
+pub record SweptBlock (n : ℕ) (ruled : Swept) (work : List Float) (answer : Option Projection) (x' work' : List Float) : Type 0 where
+  pub answered : answer ≡ Some (swept_answer ruled)
   pub block : x' ≡ ruled.reached.matrix
   pub cone_work : work' ≡ take n work ++ ruled.reached.vectors ++ drop (n + n * n) work
   pub stored : length ruled.reached.vectors ≡ n * n

@@ -1,8 +1,10 @@
-// map_eig of floatgeneric.rs: the semidefinite projection.
+// map_eig of floatgeneric.rs: the semidefinite projection. Its loops go by number where row and column make the place: an index in any form.
 #![tactic(auto)]
 
 ghost use Rattle.std.specs.Prelude.{◌+◌, ◌*◌, ◌≤◌, ◌<◌, ◌≡◌, true, length, drop};
-ghost use Rattle.rules.specs.Arithmetic.{+0, at, each, tabulate};
+ghost use Rattle.rules.specs.Limits.{limit};
+ghost use Rattle.rules.specs.Matrices.{triangle};
+ghost use Rattle.rules.specs.Arithmetic.{at, tabulate};
 ghost use Rattle.rules.specs.Jacobi.{packed, in_packed, in_square, jacobi, sweeps_fit};
 ghost use Rattle.rules.specs.Projections.{√2, diagonal_times, unit, rebuilt_entry, proj_psd, block_fits, BlockOutcome};
 ghost use Rattle.rules.specs.declared.Cone.TheVariants.{PSD};
@@ -15,23 +17,21 @@ use matrix::triangle;
 use root::root_two;
 use rules::{Cone, Projection, SolverParam};
 
+// Where entry k of a packed triangle's diagonal is stored.
+fn on_diagonal(k: usize) -> usize
+    requires { k < limit }
+    ensures { result ≡ triangle k + k }
+{
+    triangle(k) + k
+}
+
 // The diagonal times a number.
 fn scale_diagonal(n: usize, by: f64, x: &mut [f64])
     requires { IsPacked n x.old }
     ensures { x.new ≡ diagonal_times by n x.old }
 {
     for k in 0..n {
-        let p = triangle(k) + k;
-        x[p] = x[p] * by;
-    }
-}
-
-// Every place becomes +0.
-fn clear(x: &mut [f64])
-    ensures { x.new ≡ each (λ k v. +0) x.old }
-{
-    for k in 0..x.len() {
-        x[k] = 0.0;
+        x[on_diagonal(k)] *= by;
     }
 }
 
@@ -40,7 +40,7 @@ fn start(n: usize, z: &mut [f64])
     requires { IsSquare n z.old }
     ensures { z.new ≡ unit n }
 {
-    clear(z);
+    z.fill(0.0);
     for k in 0..n {
         z[k * n + k] = 1.0;
     }
@@ -52,9 +52,8 @@ fn eigenvalues(n: usize, x: &[f64], w: &mut [f64])
     requires w_len { length w.old ≡ n }
     ensures { w.new ≡ tabulate n (λ i. in_packed n x.now i i) }
 {
-    for k in 0..n {
-        let p = triangle(k) + k;
-        w[k] = x[p];
+    for (k, value) in w.iter_mut().enumerate() {
+        *value = x[on_diagonal(k)];
     }
 }
 
@@ -87,7 +86,7 @@ fn rebuild(n: usize, work: &[f64], x: &mut [f64])
     requires n_in_bounds { n + n * n ≤ length work.now }
     ensures { x.new ≡ packed n (rebuilt_entry (at work.now) (in_square n (drop n work.now)) n) }
 {
-    clear(x);
+    x.fill(0.0);
     for k in 0..n {
         let e = work[k];
         if e > 0.0 {
@@ -98,7 +97,7 @@ fn rebuild(n: usize, work: &[f64], x: &mut [f64])
 }
 
 // The first half of the projection: the sweeps.
-fn sweep_block(par: SolverParam, n: usize, mat: &mut [f64], work: &mut [f64]) -> Projection
+fn sweep_block(par: SolverParam, n: usize, mat: &mut [f64], work: &mut [f64]) -> Option<Projection>
     requires packed { IsPacked n mat.old }
     requires n_in_bounds { n + n * n ≤ length work.old }
     requires par_value { sweeps_fit par ≡ true }
@@ -122,21 +121,22 @@ fn rebuild_block(n: usize, mat: &mut [f64], work: &mut [f64])
 }
 
 // The projection of a semidefinite block.
-pub fn map_eig(par: SolverParam, order: usize, mat: &mut [f64], work: &mut [f64]) -> Projection
+pub fn map_eig(
+    par: SolverParam,
+    order: usize,
+    mat: &mut [f64],
+    work: &mut [f64],
+) -> Option<Projection>
     ensures { BlockOutcome (block_fits par (PSD order) mat.old work.old)
         (proj_psd par order mat.old work.old) mat.old work.old result
         mat.new work.new }
 {
     if !block_fits(par, Cone::PSD(order), mat.len(), work.len()) {
-        return Projection::No;
+        return None;
     }
-    match sweep_block(par, order, mat, work) {
-        Projection::Done(made) => {
-            rebuild_block(order, mat, work);
-            Projection::Done(made)
-        }
-        Projection::Failed(made) => Projection::Failed(made),
-        // no block that fits is answered so
-        Projection::No => Projection::No,
+    let swept = sweep_block(par, order, mat, work)?;
+    if let Projection::Done(_) = swept {
+        rebuild_block(order, mat, work);
     }
+    Some(swept)
 }

@@ -9,6 +9,7 @@
 #![tactic(auto)]
 
 use rules::{Cols, Ending, Rows, SolverParam, Storage};
+use std::io;
 
 const N: usize = 3;
 
@@ -18,21 +19,21 @@ const M: usize = 8;
 // What is counted in thousandths is below this.
 const MOST: usize = 10000;
 
-fn write_ending<P: Print>(out: &P, ending: Ending) {
+fn name_of(ending: Ending) -> &'static str {
     match ending {
-        Ending::Converged(_, _, _) => lines::write(out, b"Converged"),
-        Ending::ExcessIter(_, _, _) => lines::write(out, b"ExcessIter"),
-        Ending::ExcessIterUnscaled(_, _) => lines::write(out, b"ExcessIter, unscaled"),
-        Ending::Unbounded(_) => lines::write(out, b"Unbounded"),
-        Ending::Infeasible(_) => lines::write(out, b"Infeasible"),
-        Ending::ConeFailure(_) => lines::write(out, b"ConeFailure"),
-        Ending::BadParam => lines::write(out, b"Refused 1"),
-        Ending::TooLarge => lines::write(out, b"Refused 2"),
-        Ending::InvalidOp => lines::write(out, b"Refused 3"),
-        Ending::BadCone => lines::write(out, b"Refused 4"),
-        Ending::NotFinite => lines::write(out, b"Refused 5"),
-        Ending::WorkShortage => lines::write(out, b"Refused 6"),
-    };
+        Ending::Converged(_, _, _) => "Converged",
+        Ending::ExcessIter(_, _, _) => "ExcessIter",
+        Ending::ExcessIterUnscaled(_, _) => "ExcessIter, unscaled",
+        Ending::Unbounded(_) => "Unbounded",
+        Ending::Infeasible(_) => "Infeasible",
+        Ending::ConeFailure(_) => "ConeFailure",
+        Ending::BadParam => "Refused 1",
+        Ending::TooLarge => "Refused 2",
+        Ending::InvalidOp => "Refused 3",
+        Ending::BadCone => "Refused 4",
+        Ending::NotFinite => "Refused 5",
+        Ending::WorkShortage => "Refused 6",
+    }
 }
 
 // How many whole thousandths a number has.
@@ -42,26 +43,24 @@ fn thousandths(x: f64) -> u64 {
     let mut next = 1.0;
     for _ in 1..MOST {
         if next <= scaled {
-            whole = std::num::wrapping_add_u64(whole, 1);
+            whole = whole.wrapping_add(1);
         }
-        next = next + 1.0;
+        next += 1.0;
     }
     whole
 }
 
-fn write_solution<P: Print>(out: &P, x: &[f64]) {
-    if x.len() == N {
-        lines::write(out, b"offset ");
-        lines::write_decimal(out, thousandths(x[0]));
-        lines::write(out, b" ms, drift ");
-        lines::write_decimal(out, thousandths(x[1]));
-        lines::write(out, b" ms a day, largest miss ");
-        lines::write_decimal(out, thousandths(x[2]));
-        lines::write(out, b" ms\n");
-    }
+fn write_solution<P: Print>(out: &P, x: &[f64]) -> io::Result<()> {
+    let [offset, drift, miss] = x else {
+        return Ok(());
+    };
+    let offset = thousandths(*offset);
+    let drift = thousandths(*drift);
+    let miss = thousandths(*miss);
+    println!(out; "offset {offset} ms, drift {drift} ms a day, largest miss {miss} ms")
 }
 
-fn main(rt: HostRuntime) {
+fn run<P: Print>(out: &P) -> io::Result<()> {
     let c = [0.0, 0.0, 1.0];
     // the columns of offset, drift and e; after 0, 14, 31 and 49 days
     let a = [
@@ -87,10 +86,12 @@ fn main(rt: HostRuntime) {
         &mut work,
         &mut cone_work,
     );
-    let ending = answer.ending;
-    write_ending(&rt, ending);
-    lines::write(&rt, b" after ");
-    lines::write_decimal(&rt, answer.steps);
-    lines::write(&rt, b" steps\n");
-    write_solution(&rt, solution::solution_x(&work, Cols(N)));
+    let name = name_of(answer.ending);
+    println!(out; "{name} after {} steps", answer.steps)?;
+    write_solution(out, solution::solution_x(&work, Cols(N)))
+}
+
+// A write that fails ends the output: to tell of it on standard error takes one more of C's functions, which nothing proves.
+fn main(rt: HostRuntime) {
+    let _ = run(&rt);
 }

@@ -13,20 +13,13 @@ fn both_zero(a: f64, b: f64) -> bool
     a == 0.0 && b == 0.0
 }
 
-// The first where it is picked, or where the second is a NaN; else the second.
-fn picked(first: bool, a: f64, b: f64) -> f64
-    ensures { result ≡ cond first a (cond (eq b b) b a) }
-{
-    if first { a } else { if b == b { b } else { a } }
-}
-
 // The larger of two, the standard's maximumNumber: a NaN yields to the other, and −0 lies below +0.
 pub fn larger(a: f64, b: f64) -> f64
     ensures { result ≡ rules.larger a b }
 {
     // the sum of two zeros is −0 where both are −0
     let of_zeros = a + b;
-    let of_others = picked(b < a, a, b);
+    let of_others = a.max(b);
     if both_zero(a, b) { of_zeros } else { of_others }
 }
 
@@ -36,24 +29,22 @@ pub fn smaller(a: f64, b: f64) -> f64
 {
     // of two zeros the opposites' sum is −0 where both are +0; its opposite is the smaller
     let of_zeros = -(-a - b);
-    let of_others = picked(a < b, a, b);
+    let of_others = a.min(b);
     if both_zero(a, b) { of_zeros } else { of_others }
 }
 
 // The absolute value: the sign is cleared, a zero's too.
+#[tactic(auto, using(crate::proofs::Library::abs_is_magnitude))]
 pub fn magnitude(x: f64) -> f64
     ensures { result ≡ rules.magnitude x }
 {
-    if x < 0.0 {
-        -x
-    } else {
-        if x == 0.0 { 0.0 } else { x }
-    }
+    x.abs()
 }
 
 // 1 divided by the number.
+#[tactic(auto, unfolding(rules::specs::Helpers::reciprocal, rules::specs::Helpers::one))]
 pub fn reciprocal(x: f64) -> f64
     ensures { result ≡ rules.reciprocal x }
 {
-    1.0 / x
+    x.recip()
 }

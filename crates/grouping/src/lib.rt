@@ -7,7 +7,7 @@ ghost use Rattle.rules.specs.Blocks.{blocks_of};
 ghost use Rattle.rules.specs.Product.{grouped, is_grouped, group_block, group_all, list_fits};
 
 use block::places_of;
-use rules::{Cone, Word};
+use rules::Cone;
 use word::read_word;
 use words::list_fits;
 
@@ -15,14 +15,12 @@ use words::list_fits;
 fn group(t: &mut [f64])
     ensures { t.new ≡ grouped t.old }
 {
-    if 0 < t.len() {
-        let mut smallest = t[0];
-        for k in 0..t.len() {
-            smallest = float::smaller(smallest, t[k]);
+    if let Some(&first) = t.first() {
+        let mut smallest = first;
+        for &value in t.iter() {
+            smallest = float::smaller(smallest, value);
         }
-        for k in 0..t.len() {
-            t[k] = smallest;
-        }
+        t.fill(smallest);
     }
 }
 
@@ -30,13 +28,7 @@ fn group(t: &mut [f64])
 fn is_grouped(cone: Cone) -> bool
     ensures { result ≡ is_grouped cone }
 {
-    match cone {
-        Cone::Zero(_) => false,
-        Cone::RPos(_) => false,
-        Cone::SOC(_) => true,
-        Cone::RotSOC(_) => true,
-        Cone::PSD(_) => true,
-    }
+    matches!(cone, Cone::SOC(_) | Cone::RotSOC(_) | Cone::PSD(_))
 }
 
 // Groups a block, if its places go together.
@@ -53,17 +45,15 @@ fn group_all(words: &[u16], xs: &mut [f64])
     requires { list_fits words.now xs.old ≡ true }
     ensures { xs.new ≡ group_all (blocks_of words.now) xs.old }
 {
-    let mut start: usize = 0;
-    for i in 0..words.len() {
-        match read_word(words[i]) {
-            // no list that fits has one
-            Word::Bad => return,
-            Word::Block(block) => {
-                let end = start + places_of(block);
-                group_block(block, &mut xs[start..end]);
-                start = end;
-            }
-        }
+    let mut start = 0;
+    for &word in words {
+        // no list that fits has a bad one
+        let Some(block) = read_word(word) else {
+            return;
+        };
+        let end = start + places_of(block);
+        group_block(block, &mut xs[start..end]);
+        start = end;
     }
 }
 

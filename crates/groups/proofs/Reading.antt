@@ -1,11 +1,10 @@
 -- Laws of the two readers: an item's own words, words put one after another, and a list up to an item.
-use Prim.Native.Nat.{ℕ, ◌+◌, ◌-◌, ◌≤◌, ◌<◌}
+use Prim.Native.Nat.{ℕ, suc, ◌+◌, ◌-◌, ◌≤◌, ◌<◌}
 use native.Mathlib.Omega.{arith}
-use mathlib.Core.Path.{◌≡◌, refl, sym, ◌∙◌}
+use mathlib.Core.Path.{◌≡◌, refl, sym, ap, ◌∙◌}
 use mathlib.Core.Bool.{Bool, true, false}
 use mathlib.Core.List.{List, [], ◌∷◌, ◌++◌, append_assoc, append-nil}
-use lib.ListN.{length, take, drop, get_or, set, length-append, length-take, length-drop, drop_of_length-le}
-use lib.Seq.{length-take-le}
+use lib.ListN.{length, take, drop, set, length-append, length-take, length-drop}
 use Rattle.rules.specs.Groups.{opens, own_of, item_of, plain_at}
 use Rattle.rules.proofs.Growing.{grown_none, grown_one, grown_on}
 use Rattle.rules.proofs.Groups.{opened_is, plain_none, plain_item, item_no_longer}
@@ -38,40 +37,47 @@ put_on {at} {r} {s} {t₀} {t₁} {t₂} {first} {second} f g =
 
 -- ---- a list, up to an item
 
--- The words before place i are read: what they say stands in the buffer, and the words from there on say the rest.
-pub record ReadTo (levels at : ℕ) (words t₀ : List ℕ) (i end : ℕ) (t : List ℕ) : Type 0 where
-  pub within : i ≤ length words
+-- The words before the rest are read: what they say stands in the buffer, and the rest says what is left.
+pub record ReadTo (levels at : ℕ) (words t₀ rest : List ℕ) (end : ℕ) (t : List ℕ) : Type 0 where
   pub said : List ℕ
   pub put : Put at t₀ said end t
-  pub few : length said ≤ i
-  pub rest : plain_at levels words ≡ said ++ plain_at levels (drop i words)
+  pub few : length said + length rest ≤ length words
+  pub whole : plain_at levels words ≡ said ++ plain_at levels rest
 
-pub read_none : (levels at : ℕ) (words t : List ℕ) → ReadTo levels at words t 0 at t
-read_none levels at words t = record { within = omega arith; said = []; put = put_none at t; few = omega arith; rest = refl }
+pub read_none : (levels at : ℕ) (words t : List ℕ) → ReadTo levels at words t words at t
+read_none levels at words t = record { said = []; put = put_none at t; few = omega arith; whole = refl }
 
-pub read_more : (levels : ℕ) {at i end r : ℕ} {words t₀ t t' : List ℕ} → ReadTo levels at words t₀ i end t → i < length words → (opened : Bool) → opened ≡ opens levels (get_or words i 0) (length words - i - 1) → (own : ℕ) → own ≡ own_of opened (get_or words i 0)
-    → Put end t (item_of opened (get_or words i 0) (plain_at (levels - 1) (take own (drop (i + 1) words)))) r t' → ReadTo levels at words t₀ (i + 1 + own) r t'
-read_more levels {at} {i} {end} {r} {words} f there opened is own so item =
-    let word = get_or words i 0 in
-    let inner = take own (drop (i + 1) words) in
-    let follow = own_follow levels word (length words - i - 1) opened is own so in
-    let short : length inner ≤ own = rw (length-take own (drop (i + 1) words)) (omega arith) in
-    let more = item_of opened word (plain_at (levels - 1) inner) in
-    record {
-      within = omega (arith, follow);
-      said = f.said ++ more;
-      put = put_on f.put item;
-      few = rw (length-append f.said more) (omega (arith, f.few, short, item_no_longer opened (levels - 1) word inner));
-      rest = f.rest ∙ rw (plain_item levels words i there opened is own so) (sym (append_assoc f.said more (plain_at levels (drop (i + 1 + own) words))));
-    }
+-- one item more, of the word before the others in the rest and as many of those as are its own
+module _ (levels word : ℕ) (following : List ℕ) {opened : Bool} {own : ℕ} (is : opened ≡ opens levels word (length following)) (so : own ≡ own_of opened word) where
+  within : List ℕ
+  within = plain_at (levels - 1) (take own following)
 
-pub read_all : (levels at : ℕ) (words t₀ : List ℕ) (i end : ℕ) (t : List ℕ) → ReadTo levels at words t₀ i end t → length words ≤ i → Put at t₀ (plain_at levels words) end t
-read_all levels at words t₀ i end t f all =
-    let none : plain_at levels (drop i words) ≡ [] = rw (drop_of_length-le words all) (plain_none levels) in
-    rw (f.rest, none, append-nil f.said) f.put
+  one_item : plain_at levels (word ∷ following) ≡ item_of opened word within ++ plain_at levels (drop own following)
+  unfolding within
+  one_item =
+      let places : 0 + 1 + own ≡ suc own = omega arith in
+      let left : length (word ∷ following) - 0 - 1 ≡ length following = omega arith in
+      rw places at (plain_item levels (word ∷ following) 0 (omega arith) opened (rw left is) own so)
 
--- the part that is lent: an item's own words
-pub own_part : (own i : ℕ) (words : List ℕ) → i + 1 + own ≤ length words → (take (i + 1 + own - (i + 1)) (drop (i + 1) words) ≡ take own (drop (i + 1) words)) × (length (take (i + 1 + own - (i + 1)) (drop (i + 1) words)) ≡ own)
-own_part own i words h =
-    let as_many : i + 1 + own - (i + 1) ≡ own = omega arith in
-    (rw as_many, rw as_many (length-take-le own (drop (i + 1) words) (rw (length-drop (i + 1) words) (omega arith))))
+  pub read_more : {at end r : ℕ} {words t₀ t t' rest inner after : List ℕ} → ReadTo levels at words t₀ rest end t
+      → rest ≡ word ∷ following → inner ≡ take own following → after ≡ drop own following
+      → Put end t (item_of opened word (plain_at (levels - 1) inner)) r t'
+      → ReadTo levels at words t₀ after r t'
+  unfolding within
+  read_more {after} f is_rest is_inner is_after item =
+      let more = item_of opened word within in
+      let all : plain_at levels (word ∷ following) ≡ more ++ plain_at levels after = rw is_after one_item in
+      let item' : Put _ _ more _ _ = rw is_inner at item in
+      record {
+        said = f.said ++ more;
+        put = put_on f.put item';
+        few = rw (length-append f.said more) (omega (arith, f.few, ap length is_rest, ap length is_after, own_follow levels word (length following) opened is own so, length-take own following, length-drop own following, item_no_longer opened (levels - 1) word (take own following)));
+        whole = f.whole ∙ rw (is_rest, all) (sym (append_assoc f.said more (plain_at levels after)));
+      }
+
+empty : (xs : List ℕ) → length xs ≡ 0 → xs ≡ []
+empty [] h = refl
+empty (x ∷ xs) h = absurd (omega (arith, h))
+
+pub read_all : {levels at : ℕ} {words t₀ rest : List ℕ} {end : ℕ} {t : List ℕ} → ReadTo levels at words t₀ rest end t → length rest ≡ 0 → Put at t₀ (plain_at levels words) end t
+read_all {levels} {rest} f none = rw (f.whole, empty rest none, plain_none levels, append-nil f.said) f.put

@@ -1,7 +1,5 @@
 -- What the readers of a list with groups leave.
-use Rattle.std.specs.Prelude.{ℕ, ◌+◌, ◌≡◌, Bool, cond, List, ◌++◌, leb, length, drop}
-use Rattle.groups.specs.declared.Flattened.{Flattened}
-use Rattle.groups.specs.declared.Flattened.TheVariants.{Words, No}
+use Rattle.std.specs.Prelude.{ℕ, ◌+◌, ◌≡◌, Bool, cond, List, ◌++◌, leb, length, drop, Option, Some, None}
 use Rattle.rules.specs.Groups.{plain_words}
 use Rattle.rules.specs.Growing.{Grown}
 
@@ -15,10 +13,6 @@ abbrev pub holds_all : List ℕ → List ℕ → Bool
 holds_all words plain = leb (length words) (length plain)
 
 -- The plain words of a list stand at the front of a buffer that is long enough, and all other places are kept; one that is not is kept whole.
-pub record FlattenOutcome (words before : List ℕ) (answer : Flattened) (after : List ℕ) : Type 0 where
-  pub answered : answer ≡ cond (holds_all words before) (Words (length (plain_words words))) No
+pub record FlattenOutcome (words before : List ℕ) (answer : Option ℕ) (after : List ℕ) : Type 0 where
+  pub answered : answer ≡ cond (holds_all words before) (Some (length (plain_words words))) None
   pub left : after ≡ cond (holds_all words before) (plain_words words ++ drop (length (plain_words words)) before) before
-
-abbrev pub count_of : Flattened → ℕ
-count_of (Words count) = count
-count_of No = 0

@@ -3,38 +3,22 @@
 
 ghost use Rattle.std.specs.Prelude.{◌+◌, ◌-◌, ◌≤◌, ◌≡◌, true, length};
 ghost use Rattle.rules.specs.Groups.{opens, own_of, item_of, plain_at};
-ghost use Rattle.groups.specs.Flatten.{Put, FlattenOutcome, count_of};
+ghost use Rattle.groups.specs.Flatten.{Put, FlattenOutcome};
 
 use rules::MOST_DEEP;
-
-// What making a plain list answers: how many words it has, or a plain no.
-#[derive(Clone, Copy)]
-pub enum Flattened {
-    Words(usize),
-    No,
-}
 
 // Whether a word is a group that can be read, where so many levels are left and so many words follow it in its list.
 fn opens(levels: usize, word: u16, following: usize) -> bool
     ensures { result ≡ opens levels word following }
 {
-    if word / 8192 != 7 {
-        return false;
-    }
-    if levels == 0 {
-        return false;
-    }
-    (word % 8192) as usize <= following
+    word / 8192 == 7 && levels != 0 && (word % 8192) as usize <= following
 }
 
 // How many of the following words belong to an item.
 fn own_words(opened: bool, word: u16) -> usize
     ensures { result ≡ own_of opened word }
 {
-    if opened {
-        return (word % 8192) as usize;
-    }
-    0
+    if opened { (word % 8192) as usize } else { 0 }
 }
 
 // Reads a list item by item: its plain words come into `plain` from `at` on. Answers the place after them.
@@ -44,13 +28,12 @@ fn read_list(words: &[u16], levels: usize, plain: &mut [u16], at: usize) -> usiz
     ensures { Put at plain.old (plain_at levels words.now) result plain.new }
 {
     let mut end = at;
-    let mut i: usize = 0;
-    while i < words.len() {
-        let word = words[i];
-        let opened = opens(levels, word, words.len() - i - 1);
-        let own = own_words(opened, word);
-        end = read_item(opened, word, &words[i + 1..i + 1 + own], levels, plain, end);
-        i = i + 1 + own;
+    let mut rest = words;
+    while let Some((&word, following)) = rest.split_first() {
+        let opened = opens(levels, word, following.len());
+        let (own, after) = following.split_at(own_words(opened, word));
+        end = read_item(opened, word, own, levels, plain, end);
+        rest = after;
     }
     end
 }
@@ -79,23 +62,12 @@ fn read_item(
     next
 }
 
-// The plain words of a list come to the front of `plain`. No exactly where `plain` has fewer places than the list has words, and then it is kept.
-pub fn flatten(words: &[u16], plain: &mut [u16]) -> Flattened
+// The plain words of a list come to the front of `plain`, and it answers how many they are. No exactly where `plain` has fewer places than the list has words, and then it is kept.
+pub fn flatten(words: &[u16], plain: &mut [u16]) -> Option<usize>
     ensures { FlattenOutcome words.now plain.old result plain.new }
 {
     if plain.len() < words.len() {
-        return Flattened::No;
+        return None;
     }
-    let count = read_list(words, MOST_DEEP, plain, 0);
-    Flattened::Words(count)
-}
-
-// How many words a plain list has that was made; none after a no.
-pub fn count_of(flattened: Flattened) -> usize
-    ensures { result ≡ count_of flattened }
-{
-    match flattened {
-        Flattened::Words(count) => count,
-        Flattened::No => 0,
-    }
+    Some(read_list(words, MOST_DEEP, plain, 0))
 }

@@ -51,10 +51,7 @@ pub fn op_by_halves(
 fn is_empty(t: MatType) -> bool
     ensures { result ≡ is_empty t }
 {
-    if matrix::height(false, t) == 0 {
-        return true;
-    }
-    matrix::width(false, t) == 0
+    matrix::height(false, t) == 0 || matrix::width(false, t) == 0
 }
 
 // One line after another.
@@ -77,8 +74,8 @@ fn lines(
         ≡ transformed_by 2 alpha (entries transpose t (a1.now ++ a2.now)) x.now beta
         y.old }
 {
-    for r in 0..y.len() {
-        y[r] = alpha * line(transpose, t, a1, a2, x, r, terms) + beta * y[r];
+    for (r, v) in y.iter_mut().enumerate() {
+        *v = alpha * line(transpose, t, a1, a2, x, r, terms) + beta * *v;
     }
 }
 
@@ -98,8 +95,8 @@ fn line(
     requires terms_len { length terms.old ≡ length x.now }
     ensures { result ≡ product_by 2 (entries transpose t (a1.now ++ a2.now)) x.now r }
 {
-    for c in 0..terms.len() {
-        terms[c] = entry_at(transpose, t, a1, a2, r, c) * x[c];
+    for (c, term) in terms.iter_mut().enumerate() {
+        *term = entry_at(transpose, t, a1, a2, r, c) * x[c];
     }
     halves::sum_by_halves(terms)
 }
@@ -112,9 +109,10 @@ fn entry_at(transpose: bool, t: MatType, a1: &[f64], a2: &[f64], r: usize, c: us
     ensures { result ≡ entries transpose t (a1.now ++ a2.now) r c }
 {
     if transpose {
-        return stored_at(a1, a2, place(t, c, r));
+        stored_at(a1, a2, place(t, c, r))
+    } else {
+        stored_at(a1, a2, place(t, r, c))
     }
-    stored_at(a1, a2, place(t, r, c))
 }
 
 // What stands at a place of the two slices, one after the other.
@@ -123,9 +121,10 @@ fn stored_at(a1: &[f64], a2: &[f64], p: usize) -> f64
     ensures { result ≡ at (a1.now ++ a2.now) p }
 {
     if p < a1.len() {
-        return a1[p];
+        a1[p]
+    } else {
+        a2[p - a1.len()]
     }
-    a2[p - a1.len()]
 }
 
 // Where the entry of row r and column c is stored.

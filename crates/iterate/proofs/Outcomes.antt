@@ -5,6 +5,8 @@ use mathlib.Core.Path.{◌≡◌, refl, sym, ◌∙◌}
 use mathlib.Core.Bool.{Bool, true, false, true≢false}
 use mathlib.Core.List.{List}
 use lib.Ieee.{Float}
+use Rattle.std.specs.Prelude.{Option, Some, None}
+use Rattle.std.specs.Option.{is_some}
 use lib.ListN.{length}
 use Rattle.rules.specs.declared.Criteria.{Criteria}
 use Rattle.rules.specs.declared.Ending.{Ending}
@@ -12,32 +14,28 @@ use Rattle.rules.specs.declared.Ending.TheVariants.{ConeFailure}
 use Rattle.rules.specs.declared.Norms.{Norms}
 use Rattle.rules.specs.declared.Shape.{Shape}
 use Rattle.rules.specs.declared.SolverParam.{SolverParam}
-use Rattle.rules.specs.declared.Verdict.{Verdict}
-use Rattle.rules.specs.declared.Verdict.TheVariants.{GoesOn, Ends}
 use Rattle.rules.specs.Problem.{Slices, Problem, embed, problem_in}
 use Rattle.rules.specs.Step.{State}
 use Rattle.rules.specs.Product.{Failure, none, block}
-use Rattle.rules.specs.Run.{whole_step, verdict, state_from, Piece, ending_of, is_cone_failure}
+use Rattle.rules.specs.Run.{Verdict, GoesOn, Ends, whole_step, verdict, state_from, Piece, ending_of, is_cone_failure}
 use Rattle.rules.specs.Criteria.{tau_of}
 use Rattle.rules.specs.Progress.{Log, untouched, log_step}
 use Rattle.rules.specs.Demands.{verdict_from}
 use Rattle.rules.proofs.Progress.{few_rows}
 use Rattle.rules.proofs.Run.{step_from_lem, state_from_lem, goes_by_the_rules}
 use Rattle.project.specs.Project.{ConesReady}
+use Rattle.shape.specs.Fitting.{LikeX}
 use Rattle.step.specs.Update.{step_fits, StepReady}
 use Rattle.step.proofs.Ready.{fits_ready, step_fits_lem}
 use Rattle.iterate.specs.declared.Iterated.{Iterated}
-use Rattle.iterate.specs.declared.Iterated.TheVariants.{Made, No}
 use Rattle.whole_step.specs.declared.StepAnswer.{StepAnswer}
 use Rattle.whole_step.specs.WholeStep.{left_by_step, WholeStepOutcome}
-use Rattle.iterate.specs.declared.StepSaid.{StepSaid}
-use Rattle.iterate.specs.declared.StepSaid.TheVariants.{Said, No as NotSaid}
-use Rattle.iterate.specs.Said.{said_by}
-use Rattle.iterate.specs.Record.{log_answered, HasTau}
-use Rattle.iterate.specs.Iterate.{piece_of, before_last, record_of, counts_of, IterateOutcome}
-use Rattle.iterate.proofs.Steps.{SteppedBy, SaidOutcome, said_outcome, said_by_lem, nothing_said, per_step}
-use Rattle.iterate.proofs.Logged.{judged_fits, answered_logged, unanswered_logged}
-use Rattle.iterate.proofs.Runs.{Running, running_start, running_counts, running_more, running_end, running_halts}
+use Rattle.iterate.specs.Said.{said_by, made_by}
+use Rattle.iterate.specs.Record.{log_answered}
+use Rattle.iterate.specs.Iterate.{piece_of, before_last, record_of, counts_of, iterated, IterateOutcome}
+use Rattle.iterate.proofs.Steps.{SteppedBy, step_fits_if, stepped_by, nothing_stepped, per_step}
+use Rattle.iterate.proofs.Logged.{answered_logged}
+use Rattle.iterate.proofs.Runs.{Running, running_start, running_counts, running_more, running_stops}
 
 -- ---- the loop
 
@@ -103,58 +101,63 @@ module _ {par : SolverParam} {shape : Shape} {c : List Float} {a : Slices} {b : 
 
   -- ---- how it returns
 
-  going_end : step_fits par shape c a b words s ≡ true → {answer : Iterated} {to : State} {log' : List Float} → IterateOutcome true (problem_in shape c a b words par) ns behind given from places answer to log' → IterateOutcome (step_fits par shape c a b words from) (problem_in shape c a b words par) ns behind given from places answer to log'
+  going_end : step_fits par shape c a b words s ≡ true → {answer : Option Iterated} {to : State} {log' : List Float} → IterateOutcome true (problem_in shape c a b words par) ns behind given from places answer to log' → IterateOutcome (step_fits par shape c a b words from) (problem_in shape c a b words par) ns behind given from places answer to log'
   going_end f o = record { answered = rw (fits_then f) o.answered; left = rw (fits_then f) o.left; log_left = rw (fits_then f) o.log_left }
 
-  going_nowhere : step_fits par shape c a b words s ≡ false → {to : State} {log' : Log} → to ≡ s → log' ≡ log → IterateOutcome (step_fits par shape c a b words from) (problem_in shape c a b words par) ns behind given from places No to log'.places
-  going_nowhere f h r =
+  going_nowhere : step_fits par shape c a b words s ≡ false → {to : State} → to ≡ s → IterateOutcome (step_fits par shape c a b words from) (problem_in shape c a b words par) ns behind given from places None to log.places
+  going_nowhere f h =
       let w = g.first (fits_then f) in
-      record { answered = rw (fits_then f); left = rw (fits_then f) (h ∙ w.0); log_left = rw (fits_then f, r, w.1) }
+      record { answered = rw (fits_then f); left = rw (fits_then f) (h ∙ w.0); log_left = rw (fits_then f, w.1) }
 
 -- what the loop learns of its next step, and of its row
-module _ {par : SolverParam} {shape : Shape} {c : List Float} {a : Slices} {b : List Float} {words : List ℕ} {ns : Norms} {behind given : ℕ} {from : State} {places : List Float} {k q left : ℕ} {s : State} {log : Log} {answer : StepAnswer} {to : State}
+module _ {par : SolverParam} {shape : Shape} {c : List Float} {a : Slices} {b : List Float} {words : List ℕ} {ns : Norms} {behind given : ℕ} {from : State} {places : List Float} {k q left : ℕ} {s : State} {log : Log} {answer : Option StepAnswer} {to : State}
     (g : Going par shape c a b words ns behind given from places k q left s log) (taken : WholeStepOutcome (step_fits par shape c a b words s) (problem_in shape c a b words par) ns s answer to) where
   abbrev p : Problem
   p = problem_in shape c a b words par
 
-  -- a step that was judged had sizes that fit, and left an x like the one before
-  pub step_tau : length to.x ≡ length s.x → HasTau shape answer to.x
-  step_tau kept = record { like = λ found made is. record { is = kept ∙ (fits_ready par shape c a b words s (judged_fits taken is)).x_like.is } }
+  pub step_refused : answer ≡ None → IterateOutcome (step_fits par shape c a b words from) p ns behind given from places None to log.places
+  step_refused is = let w = nothing_stepped taken is in going_nowhere g w.0 w.1
 
   pub rows_before : log.written + log.dropped < k + 1
   rows_before = omega (arith, rows_so_far g)
 
-  module _ {heard : StepSaid} {log' : Log} (told : heard ≡ said_by par (k + 1) answer) (r : log' ≡ log_answered par.log_period (k + 1) (tau_of (embed p) to.x) answer log) where
-    o : SaidOutcome (step_fits par shape c a b words s) p ns (k + 1) s heard to
-    o = said_outcome taken told
+  module _ {step : StepAnswer} (is : answer ≡ Some step) where
+    fits : step_fits par shape c a b words s ≡ true
+    fits = step_fits_if taken is
 
-    row_is : step_fits par shape c a b words s ≡ true → log' ≡ log_step p (k + 1) (whole_step p ns s) log
-    row_is f = r ∙ answered_logged taken (k + 1) log f
+    -- it left an x like the one before
+    pub step_x : length to.x ≡ length s.x → LikeX shape to.x
+    step_x kept = record { is = kept ∙ (fits_ready par shape c a b words s fits).x_like.is }
 
-    pub step_counts : {said : Verdict} {made : ℕ} → heard ≡ Said said made → made ≤ per_step
-    step_counts is = let w = said_by_lem o is in running_counts g.running w.1 (row_is w.0) (cones_now g w.0)
+    module _ {log' : Log} {said : Verdict} {made : ℕ} (r : log' ≡ log_answered par.log_period (k + 1) (tau_of (embed p) to.x) step log) (says : said ≡ said_by par (k + 1) step) (counts : made ≡ made_by step) where
+      row_is : log' ≡ log_step p (k + 1) (whole_step p ns s) log
+      row_is = r ∙ answered_logged (rw fits at taken) is (k + 1) log
 
-    pub step_ends : {said : Verdict} {made : ℕ} {e : Ending} → heard ≡ Said said made → said ≡ Ends e → IterateOutcome (step_fits par shape c a b words from) p ns behind given from places (Made (Ends e) (k + 1) (q + made) (counts_of log')) to log'.places
-    step_ends {e = e} is h = let w = said_by_lem o is in going_end g w.0 (running_end g.running w.1 (row_is w.0) e h)
+      stepped : SteppedBy p ns (k + 1) s said made to
+      stepped = stepped_by (k + 1) taken is says counts
 
-    pub step_halts : {said : Verdict} {made : ℕ} → heard ≡ Said said made → said ≡ GoesOn → left ≤ 1 → IterateOutcome (step_fits par shape c a b words from) p ns behind given from places (Made GoesOn (k + 1) (q + made) (counts_of log')) to log'.places
-    step_halts is h l = let w = said_by_lem o is in going_end g w.0 (running_halts g.running w.1 (row_is w.0) h l)
+      pub step_counts : made ≤ per_step
+      step_counts = running_counts g.running stepped row_is (cones_now g fits)
 
-    pub step_more : {said : Verdict} {made : ℕ} → heard ≡ Said said made → said ≡ GoesOn → 1 < left → Kept s to → length log'.places ≡ length log.places → Going par shape c a b words ns behind given from places (k + 1) (q + made) (left - 1) to log'
-    step_more is h l kept m = let w = said_by_lem o is in going_more g w.0 w.1 (row_is w.0) h l kept m
+      pub step_stops : (is_some said ≡ false → left ≤ 1) → IterateOutcome (step_fits par shape c a b words from) p ns behind given from places (Some (iterated said (k + 1) (q + made) (counts_of log'))) to log'.places
+      step_stops h = going_end g fits (running_stops g.running stepped row_is h)
 
-    pub step-refused : heard ≡ NotSaid → IterateOutcome (step_fits par shape c a b words from) p ns behind given from places No to log'.places
-    step-refused is = let w = nothing_said o is in going_nowhere g w.0 w.1 (r ∙ unanswered_logged taken (k + 1) log w.0)
+      goes_on : (v : Verdict) → is_some v ≡ false → v ≡ GoesOn
+      goes_on GoesOn e = refl
+      goes_on (Ends e) h = absurd (true≢false h)
+
+      pub step_more : is_some said ≡ false → 1 < left → Kept s to → length log'.places ≡ length log.places → Going par shape c a b words ns behind given from places (k + 1) (q + made) (left - 1) to log'
+      step_more h l kept m = going_more g fits stepped row_is (goes_on said h) l kept m
 
 -- ---- the outcome
 
 -- Any two outcomes that the contract allows coincide: the answer, and each place of the vectors, of cone work and of the record.
-pub iterate_outcomes_coincide : {fits : Bool} {p : Problem} {ns : Norms} {behind given : ℕ} {s : State} {log : List Float} {i j : Iterated} {s' t : State} {l m : List Float} → IterateOutcome fits p ns behind given s log i s' l → IterateOutcome fits p ns behind given s log j t m → (i ≡ j) × (s' ≡ t) × (l ≡ m)
+pub iterate_outcomes_coincide : {fits : Bool} {p : Problem} {ns : Norms} {behind given : ℕ} {s : State} {log : List Float} {i j : Option Iterated} {s' t : State} {l m : List Float} → IterateOutcome fits p ns behind given s log i s' l → IterateOutcome fits p ns behind given s log j t m → (i ≡ j) × (s' ≡ t) × (l ≡ m)
 iterate_outcomes_coincide o q = (o.answered ∙ sym q.answered, o.left ∙ sym q.left, o.log_left ∙ sym q.log_left)
 
 -- what a caller learns whose problem fits: where no cone failed, what is left is the state after the last step
-pub record RanBy (e : Piece) (record_is : Log) (answer : Iterated) (s' : State) (log' : List Float) : Type 0 where
-  pub answer_is : answer ≡ Made e.said e.steps e.rotations (counts_of record_is)
+pub record RanBy (e : Piece) (record_is : Log) (answer : Option Iterated) (s' : State) (log' : List Float) : Type 0 where
+  pub answer_is : answer ≡ Some (iterated e.said e.steps e.rotations (counts_of record_is))
   pub state_is : is_cone_failure (ending_of e.said) ≡ false → s' ≡ e.state
   pub log_is : log' ≡ record_is.places
 
@@ -187,7 +190,7 @@ module _ (p : Problem) (ns : Norms) (behind : ℕ) (s : State) where
       let there = r.ends e is in
       state_after r.made (piece_of p ns behind given s) e there.0 r.steps_are r.state_there there.1 h
 
-pub ran_where_fits : {par : SolverParam} {shape : Shape} {c : List Float} {a : Slices} {b : List Float} {words : List ℕ} {ns : Norms} {behind given : ℕ} {s : State} {log : List Float} {answer : Iterated} {s' : State} {log' : List Float} → IterateOutcome (step_fits par shape c a b words s) (problem_in shape c a b words par) ns behind given s log answer s' log' → StepReady par shape c a b words s
+pub ran_where_fits : {par : SolverParam} {shape : Shape} {c : List Float} {a : Slices} {b : List Float} {words : List ℕ} {ns : Norms} {behind given : ℕ} {s : State} {log : List Float} {answer : Option Iterated} {s' : State} {log' : List Float} → IterateOutcome (step_fits par shape c a b words s) (problem_in shape c a b words par) ns behind given s log answer s' log' → StepReady par shape c a b words s
     → RanBy (piece_of (problem_in shape c a b words par) ns behind given s) (record_of (problem_in shape c a b words par) ns behind given s log) answer s' log'
 ran_where_fits {par} {shape} {c} {a} {b} {words} {ns} {behind} {given} {s} o r =
     let p = problem_in shape c a b words par in

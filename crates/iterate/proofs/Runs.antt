@@ -2,23 +2,21 @@
 use Prim.Native.Nat.{ℕ, suc, ◌+◌, ◌-◌, ◌*◌, ◌<◌, ◌≤◌, max}
 use native.Mathlib.Omega.{arith}
 use mathlib.Core.Path.{◌≡◌, refl, sym, ◌∙◌}
-use mathlib.Core.Bool.{true}
+use mathlib.Core.Bool.{true, false}
 use mathlib.Core.List.{List}
 use lib.Ieee.{Float}
 use Rattle.rules.specs.declared.Norms.{Norms}
-use Rattle.rules.specs.declared.Ending.{Ending}
-use Rattle.rules.specs.declared.Verdict.{Verdict}
-use Rattle.rules.specs.declared.Verdict.TheVariants.{GoesOn, Ends}
 use Rattle.rules.specs.Problem.{Problem}
 use Rattle.rules.specs.Step.{State}
-use Rattle.rules.specs.Run.{whole_step, verdict, state_from, going_on, piece_from}
+use Rattle.rules.specs.Run.{Verdict, GoesOn, Ends, whole_step, verdict, state_from, going_on, piece_from}
 use Rattle.rules.specs.Progress.{Log, untouched, log_step, log_from}
 use Rattle.rules.proofs.Progress.{log_none, log_more}
 use Rattle.rules.proofs.Run.{goes_on_exactly, piece_more, piece_none, no_steps, step_from_lem, state_from_lem}
 use Rattle.project.specs.Project.{ConesReady}
 use Rattle.whole_step.specs.WholeStep.{left_by_step}
-use Rattle.iterate.specs.declared.Iterated.TheVariants.{Made}
-use Rattle.iterate.specs.Iterate.{piece_of, counts_of, IterateOutcome}
+use Rattle.std.specs.Prelude.{Some}
+use Rattle.std.specs.Option.{is_some}
+use Rattle.iterate.specs.Iterate.{piece_of, counts_of, iterated, IterateOutcome}
 use Rattle.iterate.proofs.Steps.{SteppedBy, per_step, step_within}
 
 -- With k steps behind, q rotations made, a record so far and so many steps left to take: what is left equals the whole piece.
@@ -93,15 +91,18 @@ module _ {p : Problem} {ns : Norms} {behind given : ℕ} {from : State} {places 
         same = rw (state_left h, ← one_less) (piece_is h);
       }
 
-  last : {v : Verdict} → said ≡ v → record { said = v; steps = k + 1; rotations = q + made; state = (whole_step p ns s).state } ≡ piece_of p ns behind given from → IterateOutcome true p ns behind given from places (Made v (k + 1) (q + made) (counts_of log')) to log'.places
+  last : {v : Verdict} → said ≡ v → record { said = v; steps = k + 1; rotations = q + made; state = (whole_step p ns s).state } ≡ piece_of p ns behind given from → IterateOutcome true p ns behind given from places (Some (iterated v (k + 1) (q + made) (counts_of log'))) to log'.places
   last h e =
       let before : k + 1 - behind - 1 ≡ k - behind = omega (arith, g.least) in
       record { answered = rw (← e, ← logged_is); left = rw (← e, before, ← g.there) t.left; log_left = rw (← e, ← logged_is) }
 
-  pub running_end : (e : Ending) → said ≡ Ends e → IterateOutcome true p ns behind given from places (Made (Ends e) (k + 1) (q + made) (counts_of log')) to log'.places
-  running_end e h = last h (piece_is h)
-
-  pub running_halts : said ≡ GoesOn → left ≤ 1 → IterateOutcome true p ns behind given from places (Made GoesOn (k + 1) (q + made) (counts_of log')) to log'.places
-  running_halts h l =
+  stops_at : (v : Verdict) → said ≡ v → (is_some v ≡ false → left ≤ 1) → IterateOutcome true p ns behind given from places (Some (iterated v (k + 1) (q + made) (counts_of log'))) to log'.places
+  stops_at (Ends e) h l = last h (piece_is h)
+  stops_at GoesOn h l =
+      let fewest = l refl in
       let none_left : max left 1 - 1 ≡ 0 = omega arith in
       last h (sym (piece_none p ns (k + 1) (q + made) (whole_step p ns s).state) ∙ (rw none_left at (piece_is h)))
+
+  -- it ended, or no step is left
+  pub running_stops : (is_some said ≡ false → left ≤ 1) → IterateOutcome true p ns behind given from places (Some (iterated said (k + 1) (q + made) (counts_of log'))) to log'.places
+  running_stops = stops_at said refl

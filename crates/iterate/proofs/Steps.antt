@@ -1,47 +1,36 @@
 -- What the loop learns of one step, and how many rotations that may make.
 use Prim.Native.Nat.{ℕ, ◌+◌, ◌*◌, ◌≤◌}
 use native.Mathlib.Omega.{arith}
-use mathlib.Core.Path.{◌≡◌, refl, ◌∙◌}
+use mathlib.Core.Path.{◌≡◌, refl, sym, ◌∙◌}
 use mathlib.Core.Bool.{Bool, true, false, cond}
 use mathlib.Core.List.{List, ◌++◌}
 use lib.Ieee.{Float}
+use Rattle.std.specs.Prelude.{Option, Some, None}
 use lib.ListN.{drop}
 use Rattle.rules.specs.declared.Criteria.{Criteria}
 use Rattle.rules.specs.declared.Norms.{Norms}
 use Rattle.rules.specs.declared.SolverParam.{SolverParam}
-use Rattle.rules.specs.declared.Verdict.{Verdict}
 use Rattle.rules.specs.Limits.{limit, most_sweeps}
 use Rattle.rules.specs.Product.{Failure, none, block, Passed, proj_all, is_none}
 use Rattle.rules.specs.Problem.{Problem, embed, blocks}
 use Rattle.rules.specs.Step.{State, moved_x, projected, updated, x_x, x_y, x_s}
-use Rattle.rules.specs.Run.{whole_step, verdict}
+use Rattle.rules.specs.Run.{Verdict, whole_step, verdict}
 use Rattle.project.specs.Project.{ConesReady}
 use Rattle.project.proofs.Cones.{pass_rotations}
 use Rattle.whole_step.specs.declared.StepAnswer.{StepAnswer}
-use Rattle.whole_step.specs.declared.StepAnswer.TheVariants.{No as NoStep}
 use Rattle.whole_step.specs.WholeStep.{left_by_step, step_answer, WholeStepOutcome}
-use Rattle.iterate.specs.declared.StepSaid.{StepSaid}
-use Rattle.iterate.specs.declared.StepSaid.TheVariants.{Said, No}
-use Rattle.iterate.specs.Said.{said_by}
+use Rattle.iterate.specs.Said.{said_by, made_by}
 
 -- ---- one step
 
--- What step k says and its rotations, where all fits, and no where it doesn't; and what it leaves.
-pub record SaidOutcome (fits : Bool) (p : Problem) (ns : Norms) (k : ℕ) (s : State) (answer : StepSaid) (s' : State) : Type 0 where
-  pub answered : answer ≡ cond fits (Said (verdict p.par k (whole_step p ns s).failure (whole_step p ns s).criteria) (whole_step p ns s).rotations) No
-  pub left : s' ≡ cond fits (left_by_step p ns s) s
-
-said_of : (par : SolverParam) (k : ℕ) (failure : Failure) (criteria : Criteria) (q : ℕ) → said_by par k (step_answer criteria q failure) ≡ Said (verdict par k failure criteria) q
+said_of : (par : SolverParam) (k : ℕ) (failure : Failure) (criteria : Criteria) (q : ℕ) → said_by par k (step_answer criteria q failure) ≡ verdict par k failure criteria
 unfolding verdict
 said_of par k none criteria q = refl
 said_of par k (block b) criteria q = refl
 
-pub said_outcome : {fits : Bool} {p : Problem} {ns : Norms} {k : ℕ} {s : State} {answer : StepAnswer} {said : StepSaid} {s' : State} → WholeStepOutcome fits p ns s answer s' → said ≡ said_by p.par k answer → SaidOutcome fits p ns k s said s'
-said_outcome {fits} {p} {ns} {k} {s} o e = record { answered = e ∙ rw o.answered (go fits); left = o.left }
-  where
-    go : (t : Bool) → said_by p.par k (cond t (step_answer (whole_step p ns s).criteria (whole_step p ns s).rotations (whole_step p ns s).failure) NoStep) ≡ cond t (Said (verdict p.par k (whole_step p ns s).failure (whole_step p ns s).criteria) (whole_step p ns s).rotations) No
-    go true = said_of p.par k (whole_step p ns s).failure (whole_step p ns s).criteria (whole_step p ns s).rotations
-    go false = refl
+made_of : (failure : Failure) (criteria : Criteria) (q : ℕ) → made_by (step_answer criteria q failure) ≡ q
+made_of none criteria q = refl
+made_of (block b) criteria q = refl
 
 -- Step k from s: what it says, its rotations, and what it leaves.
 pub record SteppedBy (p : Problem) (ns : Norms) (k : ℕ) (s : State) (said : Verdict) (made : ℕ) (s' : State) : Type 0 where
@@ -49,19 +38,33 @@ pub record SteppedBy (p : Problem) (ns : Norms) (k : ℕ) (s : State) (said : Ve
   pub counts : made ≡ (whole_step p ns s).rotations
   pub left : s' ≡ left_by_step p ns s
 
--- a step that says something had sizes that fit
-pub said_by_lem : {fits : Bool} {p : Problem} {ns : Norms} {k : ℕ} {s : State} {answer : StepSaid} {said : Verdict} {made : ℕ} {s' : State} → SaidOutcome fits p ns k s answer s' → answer ≡ Said said made → (fits ≡ true) × SteppedBy p ns k s said made s'
-said_by_lem {fits} o is = go fits (rw is at o)
-  where
-    go : (t : Bool) {p : Problem} {ns : Norms} {k : ℕ} {s : State} {said : Verdict} {made : ℕ} {s' : State} → SaidOutcome t p ns k s (Said said made) s' → (t ≡ true) × SteppedBy p ns k s said made s'
-    go true o = let e = o.answered in (refl, record { says = cc; counts = cc; left = o.left })
-    go false o = let e = o.answered in let z : ◌≡◌ {A = ℕ} 0 1 = cc in absurd (omega arith)
+same : {step ruled : StepAnswer} → Some step ≡ Some ruled → step ≡ ruled
+same e = cc
 
--- one that says nothing had not, and left all as it was
-pub nothing_said : {fits : Bool} {p : Problem} {ns : Norms} {k : ℕ} {s : State} {answer : StepSaid} {s' : State} → SaidOutcome fits p ns k s answer s' → answer ≡ No → (fits ≡ false) × (s' ≡ s)
-nothing_said {fits} o is = go fits (rw is at o)
+-- a step that answers something had sizes that fit
+pub step_fits_if : {fits : Bool} {p : Problem} {ns : Norms} {s : State} {answer : Option StepAnswer} {step : StepAnswer} {s' : State} → WholeStepOutcome fits p ns s answer s' → answer ≡ Some step → fits ≡ true
+step_fits_if {fits} {step = step} o is = go fits _ (sym is ∙ o.answered)
   where
-    go : (t : Bool) {p : Problem} {ns : Norms} {k : ℕ} {s s' : State} → SaidOutcome t p ns k s No s' → (t ≡ false) × (s' ≡ s)
+    go : (t : Bool) (ruled : StepAnswer) → Some step ≡ cond t (Some ruled) None → t ≡ true
+    go true ruled e = refl
+    go false ruled e = let z : ◌≡◌ {A = ℕ} 0 1 = cc in absurd (omega arith)
+
+-- and that is what it says
+pub step_is : {p : Problem} {ns : Norms} {s : State} {answer : Option StepAnswer} {step : StepAnswer} {s' : State} → WholeStepOutcome true p ns s answer s' → answer ≡ Some step → step ≡ step_answer (whole_step p ns s).criteria (whole_step p ns s).rotations (whole_step p ns s).failure
+step_is o is = same (sym is ∙ o.answered)
+
+pub stepped_by : {fits : Bool} {p : Problem} {ns : Norms} (k : ℕ) {s : State} {answer : Option StepAnswer} {step : StepAnswer} {s' : State} → WholeStepOutcome fits p ns s answer s' → answer ≡ Some step → {said : Verdict} {made : ℕ} → said ≡ said_by p.par k step → made ≡ made_by step → SteppedBy p ns k s said made s'
+stepped_by {fits} {p} {ns} k {s} o is says counts =
+    let o' = rw (step_fits_if o is) at o in
+    let w = whole_step p ns s in
+    let e = step_is o' is in
+    record { says = says ∙ rw e (said_of p.par k w.failure w.criteria w.rotations); counts = counts ∙ rw e (made_of w.failure w.criteria w.rotations); left = o'.left }
+
+-- one that answers nothing had not, and left all as it was
+pub nothing_stepped : {fits : Bool} {p : Problem} {ns : Norms} {s : State} {answer : Option StepAnswer} {s' : State} → WholeStepOutcome fits p ns s answer s' → answer ≡ None → (fits ≡ false) × (s' ≡ s)
+nothing_stepped {fits} o is = go fits (rw is at o)
+  where
+    go : (t : Bool) {p : Problem} {ns : Norms} {s s' : State} → WholeStepOutcome t p ns s None s' → (t ≡ false) × (s' ≡ s)
     go true o = let e = o.answered in let z : ◌≡◌ {A = ℕ} 0 1 = cc in absurd (omega arith)
     go false o = (refl, o.left)
 

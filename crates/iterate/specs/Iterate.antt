@@ -1,14 +1,13 @@
 -- The complete outcome of a piece of a run.
-use Rattle.std.specs.Prelude.{ℕ, ◌-◌, max, ◌≡◌, Bool, cond, List, Float}
+use Rattle.std.specs.Prelude.{ℕ, ◌-◌, max, ◌≡◌, Bool, cond, List, Float, Option, Some, None}
 use Rattle.rules.specs.declared.Norms.{Norms}
 use Rattle.rules.specs.Problem.{Problem}
 use Rattle.rules.specs.Step.{State}
-use Rattle.rules.specs.Run.{Piece, piece_from, state_from}
+use Rattle.rules.specs.Run.{Verdict, Piece, piece_from, state_from}
 use Rattle.rules.specs.Progress.{Log, untouched, log_from}
 use Rattle.whole_step.specs.WholeStep.{left_by_step}
 use Rattle.iterate.specs.declared.Iterated.{Iterated}
 use Rattle.iterate.specs.declared.RowCounts.{RowCounts}
-use Rattle.iterate.specs.declared.Iterated.TheVariants.{Made, No}
 
 -- so many steps from s, one at least, when others are behind
 abbrev pub piece_of : Problem → Norms → ℕ → ℕ → State → Piece
@@ -25,11 +24,14 @@ record_of p ns behind given s log = log_from p ns behind s (untouched log) ((pie
 abbrev pub counts_of : Log → RowCounts
 counts_of log = record { written = log.written; dropped = log.dropped }
 
+abbrev pub iterated : Verdict → ℕ → ℕ → RowCounts → Iterated
+iterated said steps rotations rows = record { said = said; steps = steps; rotations = rotations; rows = rows }
+
 -- It answers what the last step said, the steps by then, the rotations made and the rows of the record, where all fits, and no where it doesn't. The vectors, cone
 -- work and the record hold what that step left, place by place, or what they held before.
-pub record IterateOutcome (fits : Bool) (p : Problem) (ns : Norms) (behind given : ℕ) (s : State) (log : List Float) (answer : Iterated) (s' : State) (log' : List Float) : Type 0 where
+pub record IterateOutcome (fits : Bool) (p : Problem) (ns : Norms) (behind given : ℕ) (s : State) (log : List Float) (answer : Option Iterated) (s' : State) (log' : List Float) : Type 0 where
   pub answered :
       answer
-      ≡ cond fits (Made (piece_of p ns behind given s).said (piece_of p ns behind given s).steps (piece_of p ns behind given s).rotations (counts_of (record_of p ns behind given s log))) No
+      ≡ cond fits (Some (iterated (piece_of p ns behind given s).said (piece_of p ns behind given s).steps (piece_of p ns behind given s).rotations (counts_of (record_of p ns behind given s log)))) None
   pub left : s' ≡ cond fits (left_by_step p ns (before_last p ns behind given s)) s
   pub log_left : log' ≡ cond fits (record_of p ns behind given s log).places log

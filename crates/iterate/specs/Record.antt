@@ -1,11 +1,8 @@
 -- What a step makes of the progress record, by what it answered.
-use Rattle.std.specs.Prelude.{ℕ, ◌≡◌, cond, List, Float}
-use Rattle.rules.specs.declared.Criteria.{Criteria}
-use Rattle.rules.specs.declared.Shape.{Shape}
+use Rattle.std.specs.Prelude.{ℕ, cond, List, Float}
 use Rattle.rules.specs.Progress.{Log, is_due, row_of, log_row}
-use Rattle.shape.specs.Fitting.{LikeX}
 use Rattle.whole_step.specs.declared.StepAnswer.{StepAnswer}
-use Rattle.whole_step.specs.declared.StepAnswer.TheVariants.{Judged, Failed, No}
+use Rattle.whole_step.specs.declared.StepAnswer.TheVariants.{Judged, Failed}
 use Rattle.iterate.specs.declared.RowCounts.{RowCounts}
 
 -- a record of these places, with its rows so far
@@ -16,8 +13,3 @@ log_with counts places = record { places = places; written = counts.written; dro
 abbrev pub log_answered : ℕ → ℕ → Float → StepAnswer → Log → Log
 log_answered period k tau (Judged found made) log = cond (is_due period k) (log_row (row_of tau found) log) log
 log_answered period k tau (Failed b made) log = log
-log_answered period k tau No log = log
-
--- a step that was judged left an x with a tau
-pub record HasTau (shape : Shape) (t : StepAnswer) (x : List Float) : Type 0 where
-  pub like : (found : Criteria) (made : ℕ) → t ≡ Judged found made → LikeX shape x

@@ -5,14 +5,15 @@ ghost use Rattle.std.specs.Prelude.{◌+◌, ◌-◌, ◌<◌, ◌≡◌, length
 ghost use Rattle.rules.specs.Problem.{slices, problem_in};
 ghost use Rattle.rules.specs.Product.{none};
 ghost use Rattle.rules.specs.Run as rules;
+ghost use Rattle.shape.specs.Fitting.{LikeX};
 ghost use Rattle.rules.specs.Arithmetic.{at};
 ghost use Rattle.rules.specs.Progress.{row_of, log_row};
 ghost use Rattle.step.specs.Update.{state_of, step_fits};
-ghost use Rattle.iterate.specs.Said.{said_by};
-ghost use Rattle.iterate.specs.Record.{log_with, log_answered, HasTau};
+ghost use Rattle.iterate.specs.Said.{said_by, made_by};
+ghost use Rattle.iterate.specs.Record.{log_with, log_answered};
 ghost use Rattle.iterate.specs.Iterate.{IterateOutcome};
 
-use rules::{Criteria, Ending, Norms, Shape, SolverParam, Verdict};
+use rules::{Criteria, Ending, Norms, Shape, SolverParam};
 use whole_step::{StepAnswer, whole_step};
 
 // The rows of a progress record that were written, and those that were dropped.
@@ -22,19 +23,13 @@ pub struct RowCounts {
     pub dropped: u64,
 }
 
-// What a piece answers: what its last step said, the steps by then, the rotations made and its rows of the progress record, or a plain
-// no.
+// What a piece comes to: the ending, or none where it may go on, the steps by then, the rotations made and its rows of the progress record.
 #[derive(Clone, Copy)]
-pub enum Iterated {
-    Made(Verdict, u64, u64, RowCounts),
-    No,
-}
-
-// What step k says of a run: its verdict with the rotations that it made, or a plain no.
-#[derive(Clone, Copy)]
-enum StepSaid {
-    Said(Verdict, u64),
-    No,
+pub struct Iterated {
+    pub said: Option<Ending>,
+    pub steps: u64,
+    pub rotations: u64,
+    pub rows: RowCounts,
 }
 
 // Steps, when so many are behind: at most as many as are given, and one where none is, as with max_iter. Where a length, a
@@ -58,7 +53,7 @@ pub fn iterate(
     tx: &mut [f64],
     cone_work: &mut [f64],
     log: &mut [f64],
-) -> Iterated
+) -> Option<Iterated>
     ensures { let s = state_of x.old y.old dp_tau.now dp_sigma.now
         rx.old tx.old cone_work.old in
         IterateOutcome
@@ -72,35 +67,31 @@ pub fn iterate(
         rx.new tx.new cone_work.new) log.new }
 {
     let mut left = given;
-    let mut k = behind as u64;
-    let mut q: u64 = 0;
-    let mut counts = RowCounts {
+    let mut k = u64::from(behind);
+    let mut rotations = 0;
+    let mut rows = RowCounts {
         written: 0,
         dropped: 0,
     };
+    // a range of steps would be one short: a step is made also where none is given
     loop {
-        k = k + 1;
-        let t = whole_step(
+        k += 1;
+        // none only at the first step
+        let step = whole_step(
             par, shape, c, a1, a2, b, words, norms, x, y, dp_tau, dp_sigma, rx, tx, cone_work,
-        );
-        counts = log_step(par, shape, k, t, counts, x, log);
-        let s = said(par, k, t);
-        match s {
-            StepSaid::Said(v, made) => {
-                q = q + made;
-                match v {
-                    Verdict::Ends(e) => return Iterated::Made(Verdict::Ends(e), k, q, counts),
-                    Verdict::GoesOn => {
-                        if left <= 1 {
-                            return Iterated::Made(Verdict::GoesOn, k, q, counts);
-                        }
-                        left = left - 1;
-                    }
-                }
-            }
-            // only at the first step
-            StepSaid::No => return Iterated::No,
+        )?;
+        rows = log_step(par, shape, k, step, rows, x, log);
+        let (said, made) = said(par, k, step);
+        rotations += made;
+        if said.is_some() || left <= 1 {
+            return Some(Iterated {
+                said,
+                steps: k,
+                rotations,
+                rows,
+            });
         }
+        left -= 1;
     }
 }
 
@@ -109,47 +100,45 @@ fn log_step(
     par: SolverParam,
     shape: Shape,
     k: u64,
-    t: StepAnswer,
-    counts: RowCounts,
+    step: StepAnswer,
+    rows: RowCounts,
     x: &[f64],
     log: &mut [f64],
 ) -> RowCounts
-    requires has_tau { HasTau shape t x.now }
-    requires dropped_bound { counts.written + counts.dropped < k }
+    requires like_x { LikeX shape x.now }
+    requires dropped_bound { rows.written + rows.dropped < k }
     ensures { log_with result log.new
         ≡ log_answered par.log_period k (at x.now (shape.cols.0 + shape.rows.0 + shape.rows.0))
-        t (log_with counts log.old) }
+        step (log_with rows log.old) }
 {
-    match t {
+    match step {
         StepAnswer::Judged(found, _) => {
             if progress::is_due(par.log_period, k) {
-                return log_row(tau_of(x), found, counts, log);
+                log_row(tau_of(x), found, rows, log)
+            } else {
+                rows
             }
-            counts
         }
-        StepAnswer::Failed(_, _) => counts,
-        StepAnswer::No => counts,
+        StepAnswer::Failed(..) => rows,
     }
 }
 
 // One more row: it is put after those written, or dropped where it doesn't fit whole.
-fn log_row(tau: f64, found: Criteria, counts: RowCounts, log: &mut [f64]) -> RowCounts
-    requires { counts.written + counts.dropped < 18446744073709551615 }
-    ensures { log_with result log.new ≡ log_row (row_of tau found) (log_with counts log.old) }
+#[tactic(auto, unfolding(rules::specs::Progress::log_row, rules::specs::Progress::row_put))]
+fn log_row(tau: f64, found: Criteria, rows: RowCounts, log: &mut [f64]) -> RowCounts
+    requires { rows.written + rows.dropped < 18446744073709551615 }
+    ensures { log_with result log.new ≡ log_row (row_of tau found) (log_with rows log.old) }
 {
-    let written = counts.written;
-    let dropped = counts.dropped;
-    let one_more_written = written + 1;
-    let one_more_dropped = dropped + 1;
-    if progress::put_row(written, tau, found, log) {
-        return RowCounts {
-            written: one_more_written,
-            dropped,
-        };
-    }
-    RowCounts {
-        written,
-        dropped: one_more_dropped,
+    if progress::put_row(rows.written, tau, found, log) {
+        RowCounts {
+            written: rows.written + 1,
+            ..rows
+        }
+    } else {
+        RowCounts {
+            dropped: rows.dropped + 1,
+            ..rows
+        }
     }
 }
 
@@ -161,24 +150,19 @@ fn tau_of(x: &[f64]) -> f64
     x[x.len() - 1]
 }
 
-// What step k says, by what it answered.
-fn said(par: SolverParam, k: u64, t: StepAnswer) -> StepSaid
-    ensures { result ≡ said_by par k t }
+// What step k says of the run, and the rotations that it made.
+fn said(par: SolverParam, k: u64, step: StepAnswer) -> (Option<Ending>, u64)
+    ensures says { result.0 ≡ said_by par k step }
+    ensures counts { result.1 ≡ made_by step }
 {
-    match t {
-        StepAnswer::Judged(found, made) => {
-            let v = says(par, k, found);
-            StepSaid::Said(v, made)
-        }
-        StepAnswer::Failed(block, made) => {
-            StepSaid::Said(Verdict::Ends(Ending::ConeFailure(block)), made)
-        }
-        StepAnswer::No => StepSaid::No,
+    match step {
+        StepAnswer::Judged(found, made) => (says(par, k, found), made),
+        StepAnswer::Failed(block, made) => (Some(Ending::ConeFailure(block)), made),
     }
 }
 
 // What a step's criteria say at step k.
-fn says(par: SolverParam, k: u64, found: Criteria) -> Verdict
+fn says(par: SolverParam, k: u64, found: Criteria) -> Option<Ending>
     ensures { result ≡ rules.verdict par k none found }
 {
     match found {

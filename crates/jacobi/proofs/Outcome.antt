@@ -1,8 +1,9 @@
 -- What the test of the sizes says, and how the outcome is shown.
 use Prim.Native.Nat.{ℕ, ◌*◌, ◌≤◌}
-use mathlib.Core.Path.{◌≡◌, ap}
+use mathlib.Core.Path.{◌≡◌}
 use mathlib.Core.Bool.{Bool, true, false, ◌&&◌}
 use mathlib.Core.List.{List}
+use Rattle.std.specs.Prelude.{Some, None}
 use borrow.Author.Tests.{leb-true, eqb-true}
 use lib.Dec.{leb, eqb}
 use lib.Ieee.{Float}
@@ -10,7 +11,7 @@ use lib.ListN.{length}
 use Rattle.rules.specs.Limits.{limit, most_sweeps}
 use Rattle.rules.specs.Matrices.{triangle}
 use Rattle.rules.specs.Jacobi.{Swept, sweeps_fit, jacobi_fits, JacobiOutcome}
-use Rattle.rules.specs.declared.Projection.TheVariants.{Done, Failed, No}
+use Rattle.rules.specs.declared.Projection.TheVariants.{Done, Failed}
 use Rattle.rules.specs.declared.SolverParam.{SolverParam}
 use Rattle.rules.proofs.Matrices.{both_true}
 use Rattle.jacobi.specs.Sizes.{IsPacked, IsSquare}
@@ -35,12 +36,12 @@ fitting {par} {n} {x} {z} e =
     }
 
 module _ {fits : Bool} {ruled : Swept} {x z : List Float} where
-  pub refused : fits ≡ false → JacobiOutcome fits ruled x z No x z
+  pub refused : fits ≡ false → JacobiOutcome fits ruled x z None x z
   refused e = record { answered = rw e; matrix_left = rw e; vectors_left = rw e }
 
   module _ {x' z' : List Float} {made : ℕ} (e : fits ≡ true) where
-    pub stopped : swept (state x' z' made) true ≡ ruled → JacobiOutcome fits ruled x z (Done made) x' z'
+    pub stopped : swept (state x' z' made) true ≡ ruled → JacobiOutcome fits ruled x z (Some (Done made)) x' z'
     stopped is = record { answered = rw (e, ← is); matrix_left = rw (e, ← is); vectors_left = rw (e, ← is) }
 
-    pub ran_out : swept (state x' z' made) false ≡ ruled → JacobiOutcome fits ruled x z (Failed made) x' z'
+    pub ran_out : swept (state x' z' made) false ≡ ruled → JacobiOutcome fits ruled x z (Some (Failed made)) x' z'
     ran_out is = record { answered = rw (e, ← is); matrix_left = rw (e, ← is); vectors_left = rw (e, ← is) }

@@ -1,4 +1,5 @@
-// Jacobi's method, jacobi_eig of floatgeneric.rs. The matrix is a packed upper triangle, the vectors are n columns of n.
+// Jacobi's method, jacobi_eig of floatgeneric.rs. The matrix is a packed upper triangle, the vectors are n columns of n. Its loops go by
+// number: row and column make the place, an index in any form.
 #![tactic(auto)]
 
 ghost use Rattle.std.specs.Prelude.{◌+◌, ◌-◌, ◌*◌, ◌≤◌, ◌<◌, ◌≡◌, length};
@@ -180,39 +181,36 @@ fn sweep(n: usize, tol: f64, rotations: u64, x: &mut [f64], z: &mut [f64]) -> u6
 }
 
 // Whether matrix and vectors have the lengths that the order says, and the order and the sweep limit are within their ranges.
+#[tactic(auto, using(matrix::proofs::Counted::counted_is))]
 fn sizes_fit(par: SolverParam, n: usize, x: usize, z: usize) -> bool
     ensures { result ≡ jacobi_fits par n x z }
 {
-    if n > LIMIT {
-        return false;
-    }
-    if x != triangle(n) {
-        return false;
-    }
-    if z != n * n {
-        return false;
-    }
-    sweeps_fit(par)
+    n <= LIMIT && x == triangle(n) && z == n * n && sweeps_fit(par)
 }
 
 // Sweeps until one makes no rotation, or the limit is reached, and answers the rotations. Where the order, a length or the sweep limit
 // doesn't fit, it answers no and changes nothing.
-pub fn jacobi_eig(par: SolverParam, order: usize, x: &mut [f64], z: &mut [f64]) -> Projection
+pub fn jacobi_eig(
+    par: SolverParam,
+    order: usize,
+    x: &mut [f64],
+    z: &mut [f64],
+) -> Option<Projection>
     ensures { JacobiOutcome (jacobi_fits par order (length x.old) (length z.old))
         (jacobi par order x.old z.old) x.old z.old result x.new
         z.new }
 {
     if !sizes_fit(par, order, x.len(), z.len()) {
-        return Projection::No;
+        return None;
     }
     let tol = par.eps_zero * par.eps_zero;
     let mut made = 0;
-    for k in 0..par.sweep_limit {
+    for _ in 0..par.sweep_limit {
         let before = made;
         made = sweep(order, tol, before, x, z);
         if made == before {
-            return Projection::Done(made);
+            return Some(Projection::Done(made));
         }
     }
-    Projection::Failed(made)
+    Some(Projection::Failed(made))
 }

@@ -3,35 +3,21 @@ use Prim.Native.Nat.{ℕ, ◌≤◌}
 use native.Mathlib.Omega.{arith}
 use mathlib.Core.Path.{◌≡◌, refl, sym, ◌∙◌}
 use mathlib.Core.Bool.{Bool, true, false}
-use mathlib.Core.List.{List, [], ◌∷◌}
+use mathlib.Core.List.{List, ◌∷◌}
 use lib.ListN.{length, drop}
 use Rattle.rules.specs.declared.Ending.{Ending}
 use Rattle.rules.specs.declared.Ending.TheVariants.{BadParam, TooLarge}
-use Rattle.rules.specs.declared.Refusal.{Refusal}
-use Rattle.rules.specs.declared.Refusal.TheVariants.{Accepted, Refused}
-use Rattle.rules.specs.declared.SolverParam.{SolverParam}
 use Rattle.rules.specs.Limits.{most_words}
 use Rattle.rules.specs.Groups.{plain_words}
 use Rattle.rules.specs.Problem.{Problem, as_read}
-use Rattle.rules.specs.Refusals.{Fact, ◌when◌, first_of, as_refusal, bad_param, too_large, facts, refusal, read_problem}
+use Rattle.rules.specs.Refusals.{Refusal, Accepted, Refused, Fact, ◌when◌, first_of, as_refusal, bad_param, too_large, facts, refusal, read_problem}
 use Rattle.rules.specs.Split.{SplitProblem, joined_problem, split_facts, split_refusal}
 use Rattle.rules.proofs.Accepted.{sizes_fit}
-use Rattle.piece_rules.specs.declared.LaterRefusal.{LaterRefusal}
 use Rattle.piece_rules.specs.declared.RunLengths.{RunLengths}
 use Rattle.piece_rules.specs.declared.RunRecord.{RunRecord}
-use Rattle.piece_rules.specs.Pieces.{lengths_of, stale_run, later_refusal, later_split_refusal}
+use Rattle.piece_rules.specs.Pieces.{Later, lengths_of, stale_run, later_refusal, later_split_refusal}
 use Rattle.piece_rules.proofs.Kept.{later_by, later_is, split_later_is}
 use Rattle.later_check.specs.Parts.{listed, after_tests, by_record}
-
--- what the record says counts only where the six tests turn nothing away
-pub record_counts : (found : Refusal) {one other : LaterRefusal} → (found ≡ Accepted → one ≡ other) → after_tests found one ≡ after_tests found other
-record_counts (Refused e) same = refl
-record_counts Accepted same = same refl
-
-pub told_by_record : (r : RunRecord) (lengths : RunLengths) (words : List ℕ) (par : SolverParam) {read : SolverParam} {stale t : Bool}
-    → read ≡ as_read par → stale ≡ stale_run r lengths (listed words read) → stale ≡ t
-    → by_record t ≡ by_record (stale_run r lengths (listed words (as_read par)))
-told_by_record r lengths words par e is t = rw (← e, ← is, t)
 
 as_later : (found : Refusal) (stale : Bool) → after_tests found (by_record stale) ≡ later_by found stale
 as_later (Refused e) stale = refl
@@ -61,7 +47,7 @@ module _ (r : RunRecord) (p : Problem) (work cone log : ℕ) where
   unfolding refusal
   few_words e is = (sizes_fit p (second_fails (bad_param p.par) (too_large p) (drop 2 (facts p work cone)) (sym e ∙ is))).words
 
-  pub first_of_seven : {found : Refusal} {answer : LaterRefusal} → found ≡ refusal p work cone
+  pub first_of_seven : {found : Refusal} {answer : Later} → found ≡ refusal p work cone
       → answer ≡ after_tests found (by_record (stale_run r (lengths_of p work cone log) (listed (plain_words p.words) (as_read p.par))))
       → answer ≡ later_refusal r p work cone log
   first_of_seven {found} {answer} e is =
@@ -72,7 +58,7 @@ module _ (r : RunRecord) (p : SplitProblem) (work cone log : ℕ) where
   unfolding split_refusal
   split_few_words e is = (sizes_fit (joined_problem p) (second_fails (bad_param p.par) (too_large (joined_problem p)) (drop 2 (split_facts p work cone)) (sym e ∙ is))).words
 
-  pub split_first_of_seven : {found : Refusal} {answer : LaterRefusal} → found ≡ split_refusal p work cone
+  pub split_first_of_seven : {found : Refusal} {answer : Later} → found ≡ split_refusal p work cone
       → answer ≡ after_tests found (by_record (stale_run r (lengths_of (joined_problem p) work cone log) (listed (plain_words p.words) (as_read p.par))))
       → answer ≡ later_split_refusal r p work cone log
   split_first_of_seven {found} {answer} e is =

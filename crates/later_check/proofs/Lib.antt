@@ -1,5 +1,3 @@
 pub mod Counts
-pub mod Reasons
-pub mod Fronts
 pub mod Later
 pub mod Coincide

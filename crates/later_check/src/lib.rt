@@ -5,16 +5,16 @@ mod pairs;
 mod stale;
 
 ghost use Rattle.std.specs.Prelude.{◌≤◌, ◌≡◌, length};
-ghost use Rattle.rules.specs.declared.Refusal.TheVariants.{Accepted};
 ghost use Rattle.rules.specs.Limits.{most_words};
 ghost use Rattle.rules.specs.Groups.{plain_words};
 ghost use Rattle.rules.specs.Problem.{problem_of, as_read};
+ghost use Rattle.rules.specs.Refusals.{Accepted};
 ghost use Rattle.rules.specs.Split.{split_of};
 ghost use Rattle.piece_rules.specs.Pieces.{stale_run, later_refusal, later_split_refusal};
 ghost use Rattle.later_check.specs.Parts.{listed, after_tests, by_record};
 
 use piece_rules::{LaterRefusal, RunLengths, RunRecord};
-use rules::{Cols, Refusal, Rows, SolverParam, Storage};
+use rules::{Cols, Ending, Rows, SolverParam, Storage};
 
 // The first of the seven tests that applies. The buffers are of these lengths.
 pub fn check_later(
@@ -30,14 +30,14 @@ pub fn check_later(
     work: usize,
     cone_work: usize,
     log: usize,
-) -> LaterRefusal
+) -> Result<(), LaterRefusal>
     ensures { result
         ≡ later_refusal «record»
         (problem_of rows.0 cols.0 storage c.now a.now b.now
         words.now par)
         work cone_work log }
 {
-    let refusal = checks::check(par, rows, cols, storage, c, a, b, words, work, cone_work);
+    let tested = checks::check(par, rows, cols, storage, c, a, b, words, work, cone_work);
     let lengths = RunLengths {
         cols: cols.0,
         rows: rows.0,
@@ -46,7 +46,7 @@ pub fn check_later(
         cone_work,
         log,
     };
-    then_stale(refusal, record, par, lengths, words)
+    then_stale(tested, record, par, lengths, words)
 }
 
 // The first of the seven that applies to a problem whose dense A stands in two slices.
@@ -64,14 +64,14 @@ pub fn check_later_split(
     work: usize,
     cone_work: usize,
     log: usize,
-) -> LaterRefusal
+) -> Result<(), LaterRefusal>
     ensures { result
         ≡ later_split_refusal «record»
         (split_of rows.0 cols.0 first.0 c.now factory.now lesson.now
         b.now words.now par)
         work cone_work log }
 {
-    let refusal = checks::check_split(
+    let tested = checks::check_split(
         par, rows, cols, first, c, factory, lesson, b, words, work, cone_work,
     );
     let lengths = RunLengths {
@@ -82,34 +82,26 @@ pub fn check_later_split(
         cone_work,
         log,
     };
-    then_stale(refusal, record, par, lengths, words)
+    then_stale(tested, record, par, lengths, words)
 }
 
-// What the six tests say, and then the seventh. Both are worked out, and what the six say comes first.
+// What the six tests say, and then the seventh.
 fn then_stale(
-    refusal: Refusal,
+    tested: Result<(), Ending>,
     record: RunRecord,
     par: SolverParam,
     lengths: RunLengths,
     words: &[u16],
-) -> LaterRefusal
-    requires { refusal ≡ Accepted → length words.now ≤ most_words }
+) -> Result<(), LaterRefusal>
+    requires { tested ≡ Accepted → length words.now ≤ most_words }
     ensures { result
-        ≡ after_tests refusal
+        ≡ after_tests tested
         (by_record (stale_run «record» lengths (listed (plain_words words.now) (as_read par)))) }
 {
-    let as_read = parameters::read_eps(par);
-    if stale::is_stale(record, as_read, lengths, words) {
-        return after_tests(refusal, LaterRefusal::StaleRun);
-    }
-    after_tests(refusal, LaterRefusal::Accepted)
-}
-
-fn after_tests(refusal: Refusal, last: LaterRefusal) -> LaterRefusal
-    ensures { result ≡ after_tests refusal last }
-{
-    match refusal {
-        Refusal::Refused(ending) => LaterRefusal::Refused(ending),
-        Refusal::Accepted => last,
+    tested.map_err(LaterRefusal::Refused)?;
+    if stale::is_stale(record, parameters::read_eps(par), lengths, words) {
+        Err(LaterRefusal::StaleRun)
+    } else {
+        Ok(())
     }
 }

@@ -5,16 +5,16 @@ ghost use Rattle.rules.specs.Blocks.{read_word, places, blocks_of};
 ghost use Rattle.rules.specs.Demands.{pairs_twice, all_pairs_twice};
 ghost use Rattle.later_check.specs.Parts.{pairs_said};
 
-use rules::{Cone, Word};
+use rules::Cone;
 use word::read_word;
 
 pub(crate) fn pairs_twice(words: &[u16]) -> u64
     requires { length words.now ≤ most_words }
     ensures { result ≡ all_pairs_twice (blocks_of words.now) }
 {
-    let mut sum: u64 = 0;
-    for i in 0..words.len() {
-        sum = sum + pairs_said(words[i]);
+    let mut sum = 0;
+    for &word in words {
+        sum += pairs_said(word);
     }
     sum
 }
@@ -25,8 +25,8 @@ fn pairs_said(word: u16) -> u64
     ensures few { result ≤ 16383 }
 {
     match read_word(word) {
-        Word::Block(block) => pairs_of(block),
-        Word::Bad => 0,
+        Some(block) => pairs_of(block),
+        None => 0,
     }
 }
 
@@ -36,15 +36,7 @@ fn pairs_of(block: Cone) -> u64
     ensures few { result ≤ 16383 }
 {
     match block {
-        Cone::PSD(order) => {
-            if order == 0 {
-                return 0;
-            }
-            (order * (order - 1)) as u64
-        }
-        Cone::Zero(_) => 0,
-        Cone::RPos(_) => 0,
-        Cone::SOC(_) => 0,
-        Cone::RotSOC(_) => 0,
+        Cone::PSD(order) => (order * order.saturating_sub(1)) as u64,
+        _ => 0,
     }
 }

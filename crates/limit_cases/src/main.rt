@@ -3,6 +3,7 @@
 
 use lines::write_case;
 use rules::{Answer, Cols, LIMIT, MOST_WORDS, Rows, SolverParam, Storage};
+use std::io;
 
 // How many numbers c and b may have: the places of a block of the order after the largest, 1,035.
 const LONG: usize = PLACES + ORDER + 1;
@@ -37,19 +38,18 @@ struct Told {
 }
 
 fn told_by(answer: Answer) -> Told {
-    let ending = answer.ending;
     Told {
-        number: replay_answers::number_of(ending),
+        number: replay_answers::number_of(answer.ending),
         steps: answer.steps,
     }
 }
 
-// No answer: there is no room for what is asked.
-fn unasked() -> Told {
-    Told {
+impl Told {
+    // No answer: there is no room for what is asked.
+    const UNASKED: Told = Told {
         number: 0,
         steps: 0,
-    }
+    };
 }
 
 // An accepted problem ends, here at its last step; one that is refused takes none.
@@ -85,14 +85,8 @@ fn answer(
     work: usize,
     cone_work: usize,
 ) -> Told {
-    if stored > numbers.len() {
-        return unasked();
-    }
-    if work > WORK {
-        return unasked();
-    }
-    if cone_work > CONE_WORK {
-        return unasked();
+    if stored > numbers.len() || work > WORK || cone_work > CONE_WORK {
+        return Told::UNASKED;
     }
     let mut lent = sevens();
     let mut lent_cone = [7.0; CONE_WORK];
@@ -100,10 +94,10 @@ fn answer(
         storage,
         m,
         n,
-        &numbers[0..stored],
+        &numbers[..stored],
         words,
-        &mut lent[0..work],
-        &mut lent_cone[0..cone_work],
+        &mut lent[..work],
+        &mut lent_cone[..cone_work],
     )
 }
 
@@ -116,11 +110,8 @@ fn answer_in(
     work: &mut [f64],
     cone_work: &mut [f64],
 ) -> Told {
-    if m > LONG {
-        return unasked();
-    }
-    if n > LONG {
-        return unasked();
+    if m > LONG || n > LONG {
+        return Told::UNASKED;
     }
     let c = ones();
     let b = ones();
@@ -129,9 +120,9 @@ fn answer_in(
         Rows(m),
         Cols(n),
         storage,
-        &c[0..n],
+        &c[..n],
         a,
-        &b[0..m],
+        &b[..m],
         words,
         work,
         cone_work,
@@ -141,14 +132,11 @@ fn answer_in(
 
 // The answer to the largest dense matrix, whose halves are one slice, lent for both, with so much work.
 fn answer_of_halves(numbers: &[f64], work: usize) -> Told {
-    if HALF > numbers.len() {
-        return unasked();
-    }
-    if work > WORK {
-        return unasked();
+    if HALF > numbers.len() || work > WORK {
+        return Told::UNASKED;
     }
     let mut lent = sevens();
-    answer_of_half(&numbers[0..HALF], &mut lent[0..work])
+    answer_of_half(&numbers[..HALF], &mut lent[..work])
 }
 
 fn answer_of_half(half: &[f64], work: &mut [f64]) -> Told {
@@ -182,7 +170,7 @@ fn sized(
     work: usize,
 ) -> Told {
     if m > LONG {
-        return unasked();
+        return Told::UNASKED;
     }
     let words = [NONNEGATIVE + m as u16; 1];
     answer(numbers, storage, m, n, stored, &words, work, 0)
@@ -197,7 +185,7 @@ fn listed(numbers: &[f64], words: &[u16]) -> Told {
 // The answer to a problem of one column and one semidefinite block of so many places.
 fn semidefinite(numbers: &[f64], places: usize, cone_work: usize) -> Told {
     if places > LONG {
-        return unasked();
+        return Told::UNASKED;
     }
     let words = [SEMIDEFINITE + places as u16; 1];
     answer(
@@ -212,85 +200,101 @@ fn semidefinite(numbers: &[f64], places: usize, cone_work: usize) -> Told {
     )
 }
 
-fn write_sizes<P: Print>(out: &P, numbers: &[f64]) {
-    lines::write(out, b"1,024 rows and 3 columns, accepted");
+fn write_sizes<P: Print>(out: &P, numbers: &[f64]) -> io::Result<()> {
     write_case(
         out,
+        "1,024 rows and 3 columns, accepted",
         has_run(sized(numbers, Storage::Dense, LIMIT, 3, 3 * LIMIT, WORK)),
-    );
-    lines::write(out, b"3 rows and 1,024 columns, accepted");
+    )?;
     write_case(
         out,
+        "3 rows and 1,024 columns, accepted",
         has_run(sized(numbers, Storage::Dense, 3, LIMIT, 3 * LIMIT, WORK)),
-    );
-    lines::write(out, b"packed of order 1,024, accepted");
+    )?;
     write_case(
         out,
+        "packed of order 1,024, accepted",
         has_run(sized(numbers, Storage::Packed, LIMIT, LIMIT, PACKED, WORK)),
-    );
-    lines::write(out, b"dense, 1,024 rows and columns, accepted");
-    write_case(out, has_run(answer_of_halves(numbers, WORK)));
-    lines::write(out, b"1,025 rows, refused by 2");
+    )?;
     write_case(
         out,
+        "dense, 1,024 rows and columns, accepted",
+        has_run(answer_of_halves(numbers, WORK)),
+    )?;
+    write_case(
+        out,
+        "1,025 rows, refused by 2",
         is_refused(
             sized(numbers, Storage::Dense, LIMIT + 1, 3, 3 * (LIMIT + 1), WORK),
             2,
         ),
-    );
-    lines::write(out, b"1,025 columns, refused by 2");
+    )?;
     write_case(
         out,
+        "1,025 columns, refused by 2",
         is_refused(
             sized(numbers, Storage::Dense, 3, LIMIT + 1, 3 * (LIMIT + 1), WORK),
             2,
         ),
-    );
+    )
 }
 
-fn write_work<P: Print>(out: &P, numbers: &[f64]) {
-    lines::write(out, b"packed, a place of work missing, refused by 6");
+fn write_work<P: Print>(out: &P, numbers: &[f64]) -> io::Result<()> {
     write_case(
         out,
+        "packed, a place of work missing, refused by 6",
         is_refused(
             sized(numbers, Storage::Packed, LIMIT, LIMIT, PACKED, WORK - 1),
             6,
         ),
-    );
-    lines::write(out, b"dense, a place of work missing, refused by 6");
-    write_case(out, is_refused(answer_of_halves(numbers, WORK - 1), 6));
-}
-
-fn write_words<P: Print>(out: &P, numbers: &[f64]) {
-    let most = [NONNEGATIVE + 1; MOST_WORDS];
-    let longer = [NONNEGATIVE + 1; MOST_WORDS + 1];
-    lines::write(out, b"128 words, accepted");
-    write_case(out, has_run(listed(numbers, &most)));
-    lines::write(out, b"129 words, refused by 2");
-    write_case(out, is_refused(listed(numbers, &longer), 2));
-}
-
-fn write_orders<P: Print>(out: &P, numbers: &[f64]) {
-    lines::write(out, b"a block of order 44, accepted");
-    write_case(out, has_run(semidefinite(numbers, PLACES, CONE_WORK)));
-    lines::write(out, b"order 44, a place of cone work missing, refused by 6");
+    )?;
     write_case(
         out,
-        is_refused(semidefinite(numbers, PLACES, CONE_WORK - 1), 6),
-    );
-    lines::write(
-        out,
-        b"a block of order 45, which has 1,035 places, refused by 2",
-    );
-    write_case(out, is_refused(semidefinite(numbers, LONG, CONE_WORK), 2));
+        "dense, a place of work missing, refused by 6",
+        is_refused(answer_of_halves(numbers, WORK - 1), 6),
+    )
 }
 
-fn main(rt: HostRuntime) {
+fn write_words<P: Print>(out: &P, numbers: &[f64]) -> io::Result<()> {
+    let most = [NONNEGATIVE + 1; MOST_WORDS];
+    let longer = [NONNEGATIVE + 1; MOST_WORDS + 1];
+    write_case(out, "128 words, accepted", has_run(listed(numbers, &most)))?;
+    write_case(
+        out,
+        "129 words, refused by 2",
+        is_refused(listed(numbers, &longer), 2),
+    )
+}
+
+fn write_orders<P: Print>(out: &P, numbers: &[f64]) -> io::Result<()> {
+    write_case(
+        out,
+        "a block of order 44, accepted",
+        has_run(semidefinite(numbers, PLACES, CONE_WORK)),
+    )?;
+    write_case(
+        out,
+        "order 44, a place of cone work missing, refused by 6",
+        is_refused(semidefinite(numbers, PLACES, CONE_WORK - 1), 6),
+    )?;
+    write_case(
+        out,
+        "a block of order 45, which has 1,035 places, refused by 2",
+        is_refused(semidefinite(numbers, LONG, CONE_WORK), 2),
+    )
+}
+
+fn run<P: Print>(out: &P) -> io::Result<()> {
     let mut numbers = zeros();
     numbers[0] = 1.0;
     numbers[LIMIT] = -0.5;
-    write_sizes(&rt, &numbers);
-    write_work(&rt, &numbers);
-    write_words(&rt, &numbers);
-    write_orders(&rt, &numbers);
+    write_sizes(out, &numbers)?;
+    write_work(out, &numbers)?;
+    write_words(out, &numbers)?;
+    write_orders(out, &numbers)
+}
+
+// A write that fails ends the output: to tell of it on standard error takes one more of C's functions, which nothing proves.
+fn main(rt: HostRuntime) {
+    let _ = run(&rt);
 }

@@ -11,9 +11,7 @@ ghost use Rattle.rules.specs.Vectors.{same_length, scaled, added, shifted, trans
 pub fn clear(v: &mut [f64])
     ensures { v.new ≡ zeros (length v.old) }
 {
-    for k in 0..v.len() {
-        v[k] = 0.0;
-    }
+    v.fill(0.0);
 }
 
 // y becomes x.
@@ -23,9 +21,7 @@ pub fn copy(x: &[f64], y: &mut [f64]) -> bool
     if x.len() != y.len() {
         return false;
     }
-    for i in 0..x.len() {
-        y[i] = x[i];
-    }
+    y.copy_from_slice(x);
     true
 }
 
@@ -33,8 +29,8 @@ pub fn copy(x: &[f64], y: &mut [f64]) -> bool
 pub fn scale(alpha: f64, x: &mut [f64])
     ensures { x.new ≡ scaled alpha x.old }
 {
-    for i in 0..x.len() {
-        x[i] = alpha * x[i];
+    for v in x.iter_mut() {
+        *v = alpha * *v;
     }
 }
 
@@ -46,8 +42,8 @@ pub fn add(alpha: f64, x: &[f64], y: &mut [f64]) -> bool
     if y.len() != x.len() {
         return false;
     }
-    for i in 0..x.len() {
-        y[i] = y[i] + alpha * x[i];
+    for (i, v) in y.iter_mut().enumerate() {
+        *v = *v + alpha * x[i];
     }
     true
 }
@@ -56,8 +52,8 @@ pub fn add(alpha: f64, x: &[f64], y: &mut [f64]) -> bool
 pub fn adds(s: f64, y: &mut [f64])
     ensures { y.new ≡ shifted s y.old }
 {
-    for i in 0..y.len() {
-        y[i] = y[i] + s;
+    for v in y.iter_mut() {
+        *v = *v + s;
     }
 }
 
@@ -73,8 +69,8 @@ pub fn transform_di(alpha: f64, mat: &[f64], x: &[f64], beta: f64, y: &mut [f64]
     if mat.len() != x.len() {
         return false;
     }
-    for i in 0..y.len() {
-        y[i] = alpha * mat[i] * x[i] + beta * y[i];
+    for (i, v) in y.iter_mut().enumerate() {
+        *v = alpha * mat[i] * x[i] + beta * *v;
     }
     true
 }

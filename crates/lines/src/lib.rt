@@ -1,8 +1,9 @@
-// Reading a list, and writing counts. A read or a write that fails is told by what is answered, and never by an error.
+// Reading into a buffer, and the lines that several programs write. A read that fails ends what is read; a write that fails is an error.
 #![tactic(auto)]
 
 ghost use Rattle.io.specs.Counts.{IsPrefixLen};
 
+use std::io;
 use std::io::Read;
 
 // Reads until the buffer is full, the input ends or a read fails, and answers how many bytes it put at the buffer's start.
@@ -10,6 +11,7 @@ pub fn read_full<R: Read>(input: &mut R, buffer: &mut [u8]) -> usize
     ensures { IsPrefixLen result buffer.new }
 {
     let mut done = 0;
+    // `read_exact` says nothing of how many bytes came before an end, which is what is answered here
     while done < buffer.len() {
         match input.read(&mut buffer[done..]) {
             Ok(0) | Err(_) => break,
@@ -19,105 +21,72 @@ pub fn read_full<R: Read>(input: &mut R, buffer: &mut [u8]) -> usize
     done
 }
 
-// Whether so many bytes were read, to the start of a buffer.
-pub fn read<R: Read>(input: &mut R, buffer: &mut [u8], length: usize) -> bool {
-    if length > buffer.len() {
-        return false;
-    }
-    read_full(input, &mut buffer[0..length]) == length
-}
-
 // Whether nothing more can be read.
 pub fn at_end<R: Read>(input: &mut R) -> bool {
-    let mut more = [0u8; 1];
-    !read(input, &mut more, 1)
+    input.read_exact(&mut [0]).is_err()
 }
 
-// Whether the bytes could be written.
-pub fn write<P: Print>(out: &P, bytes: &[u8]) -> bool {
-    out.write_all(bytes).is_ok()
+// The next word of a list: eight bytes, the most significant first.
+pub fn read_word<R: Read>(input: &mut R) -> io::Result<u64> {
+    let mut bytes = [0; 8];
+    input.read_exact(&mut bytes)?;
+    Ok(u64::from_be_bytes(bytes))
 }
 
-// Whether the number could be written, in decimal digits.
-pub fn write_decimal<P: Print>(out: &P, number: u64) -> bool {
-    out.print(number).is_ok()
+// The next record of a list: its first word, and then as many words as its second one says, put into the room lent. None where it is cut short or there is
+// no room for it.
+fn read_record<'a, R: Read>(input: &mut R, room: &'a mut [u8]) -> Option<(u64, &'a [u8])> {
+    let tag = read_word(input).ok()?;
+    let words = read_word(input).ok()? as usize;
+    if words > room.len() / 8 {
+        return None;
+    }
+    let record = &mut room[..words * 8];
+    input.read_exact(record).ok()?;
+    Some((tag, record))
 }
 
-// Whether the 64-bit pattern could be written, as its 16 hexadecimal digits.
-pub fn write_pattern<P: Print>(out: &P, pattern: u64) -> bool {
-    print!(out; "{pattern:016x}").is_ok()
-}
-
-// The counts after a name, to the end of the line.
-pub fn write_counts<P: Print>(out: &P, records: u64, agree: u64, differ: u64) {
-    write(out, b": ");
-    write_decimal(out, records);
-    write(out, b" records, ");
-    write_decimal(out, agree);
-    write(out, b" agree, ");
-    write_decimal(out, differ);
-    write(out, b" differ\n");
-}
-
-// The last line: all counts after the list's name. What stopped the run is a difference too.
-pub fn write_total<P: Print>(
-    out: &P,
-    name: &[u8],
-    whole: bool,
+// Replays so many records, or up to one that can't be: whether all were, and nothing follows.
+pub fn replay_all<R: Read, F: FnMut(u64, &[u8]) -> bool>(
+    input: &mut R,
     records: u64,
-    agree: u64,
-    differ: u64,
-) {
-    if whole {
-        write(out, name);
-        write_counts(out, records, agree, differ);
-        return;
+    room: &mut [u8],
+    mut replay: F,
+) -> bool
+    requires { F.IsAlwaysCallable replay }
+{
+    for _ in 0..records {
+        let Some((tag, record)) = read_record(input, room) else {
+            return false;
+        };
+        if !replay(tag, record) {
+            return false;
+        }
     }
-    write(
-        out,
-        b"stopped: a record is cut short, of no known operation, or one too many\n",
-    );
-    write(out, name);
-    write_counts(out, records, agree, std::num::wrapping_add_u64(differ, 1));
+    at_end(input)
 }
 
-// Writes the name of an answer: of a refusal by its number up to 6, and then of an ending; whether there is one of this number.
-pub fn write_answer<P: Print>(out: &P, number: usize) -> bool {
-    if number <= 6 {
-        return write_refusal(out, number);
-    }
-    write_ending(out, number)
-}
-
-fn write_refusal<P: Print>(out: &P, number: usize) -> bool {
+// The name of an answer: of a refusal by its number up to 6, and then of an ending.
+pub fn answer_name(number: usize) -> Option<&'static str> {
     match number {
-        1 => write(out, b"BadParam"),
-        2 => write(out, b"TooLarge"),
-        3 => write(out, b"InvalidOp"),
-        4 => write(out, b"BadCone"),
-        5 => write(out, b"NotFinite"),
-        6 => write(out, b"WorkShortage"),
-        _ => false,
+        1 => Some("BadParam"),
+        2 => Some("TooLarge"),
+        3 => Some("InvalidOp"),
+        4 => Some("BadCone"),
+        5 => Some("NotFinite"),
+        6 => Some("WorkShortage"),
+        7 => Some("Converged"),
+        8 => Some("ExcessIter, scaled"),
+        9 => Some("ExcessIter, unscaled"),
+        10 => Some("Unbounded"),
+        11 => Some("Infeasible"),
+        12 => Some("ConeFailure"),
+        _ => None,
     }
 }
 
-fn write_ending<P: Print>(out: &P, number: usize) -> bool {
-    match number {
-        7 => write(out, b"Converged"),
-        8 => write(out, b"ExcessIter, scaled"),
-        9 => write(out, b"ExcessIter, unscaled"),
-        10 => write(out, b"Unbounded"),
-        11 => write(out, b"Infeasible"),
-        12 => write(out, b"ConeFailure"),
-        _ => false,
-    }
-}
-
-// Writes whether a case holds, after its name.
-pub fn write_case<P: Print>(out: &P, holds: bool) -> bool {
-    if holds {
-        write(out, b": holds\n")
-    } else {
-        write(out, b": does not hold\n")
-    }
+// Writes a case's name, and whether it holds.
+pub fn write_case<P: Print>(out: &P, name: &str, holds: bool) -> io::Result<()> {
+    let told = if holds { "holds" } else { "does not hold" };
+    println!(out; "{name}: {told}")
 }

@@ -3,25 +3,23 @@
 // ending, the rows written and dropped, and each row that was written: its step, and four numbers.
 #![tactic(auto)]
 
-mod period;
 mod rows;
 
-use card_answer::ToldLogged;
+use card::Fault;
+use card_answer::Told;
 use card_file::ENOUGH;
-use card_input::Input;
-use period::Period;
-use rows::PLACES;
+use rules::Logged;
 use std::io;
 use std::rt::Runtime;
 
 fn main(rt: HostRuntime) {
-    match period::period_of_argument(&rt, 1) {
-        Period::None => {
+    match card_input::number_argument(&rt, 1) {
+        None => {
             let _ = eprintln!(rt;
                 "log_card: the period of the rows is a whole number from 0 to 4294967295"
             );
         }
-        Period::Every(period) => log_all(&rt, period),
+        Some(period) => log_all(&rt, period),
     }
 }
 
@@ -34,7 +32,7 @@ fn log_all<R: Runtime>(rt: &R, period: u32) {
 
 fn log_argument<R: Runtime>(rt: &R, i: usize, period: u32) {
     let mut bytes = [0u8; ENOUGH];
-    if let Input::Read(length) = card_input::read_argument(rt, i, &mut bytes) {
+    if let Some(length) = card_input::read_argument(rt, i, &mut bytes) {
         log(rt, &bytes[..length], period);
     }
 }
@@ -51,15 +49,15 @@ fn log<R: Print + Eprint>(rt: &R, bytes: &[u8], period: u32) {
 
 fn write_told<P: Print>(
     out: &P,
-    told: ToldLogged,
+    told: Result<Told<Logged>, Fault>,
     period: u32,
-    record: &[f64; PLACES],
+    record: &[f64],
 ) -> io::Result<()> {
     let mut text = [0u8; card_text::TEXT_ROOM];
     let end = card_text::first_line(told, &mut text);
     out.write_all(&text[..end])?;
     match told {
-        ToldLogged::Fault(_) => Ok(()),
-        ToldLogged::Answered(_, _, logged) => rows::write_record(out, logged, period, record),
+        Ok(told) => rows::write_record(out, told.answer, period, record),
+        Err(_) => Ok(()),
     }
 }

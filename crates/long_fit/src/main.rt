@@ -20,6 +20,7 @@
 #![tactic(auto)]
 
 use rules::{Answer, Cols, Ending, MatType, Rows, SolverParam, Storage};
+use std::io;
 
 const INTERVALS: usize = 1000;
 
@@ -59,6 +60,16 @@ struct Told {
     last: bool,
 }
 
+impl Told {
+    // What is told where there is no room for a fit.
+    const NONE: Told = Told {
+        offset: 0.0,
+        drift: 0.0,
+        steps: 0,
+        last: false,
+    };
+}
+
 // The time of the mark in a row: of m - 1 marks the first is as far before 0 as the last is after it.
 fn time(m: usize, half: f64, row: usize) -> f64 {
     let twice = 2.0 * std::num::nearest_u64_to_f64(row as u64);
@@ -67,21 +78,18 @@ fn time(m: usize, half: f64, row: usize) -> f64 {
 
 // What stands in A's places, one column after the other. The bound's row has no part in either.
 fn entry(m: usize, half: f64, place: usize) -> f64 {
-    if place == 0 {
-        return 0.0;
+    if place == 0 || place == m {
+        0.0
+    } else if place < m {
+        1.0
+    } else {
+        time(m, half, place - m)
     }
-    if place < m {
-        return 1.0;
-    }
-    if place == m {
-        return 0.0;
-    }
-    time(m, half, place - m)
 }
 
 fn fill_matrix(m: usize, half: f64, a: &mut [f64]) {
-    for i in 0..a.len() {
-        a[i] = entry(m, half, i);
+    for (i, number) in a.iter_mut().enumerate() {
+        *number = entry(m, half, i);
     }
 }
 
@@ -89,7 +97,7 @@ fn matrix(fit: Fit) -> [f64; A] {
     let mut a = [0.0; A];
     let m = fit.m;
     if m <= M {
-        fill_matrix(m, fit.half, &mut a[0..2 * m]);
+        fill_matrix(m, fit.half, &mut a[..2 * m]);
     }
     a
 }
@@ -100,19 +108,15 @@ fn reading(m: usize, half: f64, bound: f64, row: usize) -> f64 {
         return bound;
     }
     let line = 0.25 + 0.25 * time(m, half, row);
-    let place = row % 4;
-    if place == 2 {
-        return line - 1.0;
+    match row % 4 {
+        2 | 3 => line - 1.0,
+        _ => line + 1.0,
     }
-    if place == 3 {
-        return line - 1.0;
-    }
-    line + 1.0
 }
 
 fn fill_readings(m: usize, half: f64, bound: f64, b: &mut [f64]) {
-    for i in 0..b.len() {
-        b[i] = reading(m, half, bound, i);
+    for (i, number) in b.iter_mut().enumerate() {
+        *number = reading(m, half, bound, i);
     }
 }
 
@@ -120,7 +124,7 @@ fn readings(fit: Fit) -> [f64; M] {
     let mut b = [0.0; M];
     let m = fit.m;
     if m <= M {
-        fill_readings(m, fit.half, fit.bound, &mut b[0..m]);
+        fill_readings(m, fit.half, fit.bound, &mut b[..m]);
     }
     b
 }
@@ -129,57 +133,39 @@ fn zeros() -> [f64; WORK] {
     [0.0; WORK]
 }
 
-fn no_answer() -> Told {
-    Told {
-        offset: 0.0,
-        drift: 0.0,
-        steps: 0,
-        last: false,
-    }
-}
-
-fn ends_last(ending: Ending) -> bool {
-    match ending {
-        Ending::ExcessIter(_, _, _) => true,
-        _ => false,
-    }
-}
-
-fn told_by(answer: Answer, x: &[f64]) -> Told {
-    if x.len() != N {
-        return no_answer();
-    }
-    let ending = answer.ending;
-    Told {
-        offset: x[0],
-        drift: x[1],
+fn told_by(answer: Answer, x: &[f64]) -> Option<Told> {
+    let [offset, drift] = x else {
+        return None;
+    };
+    Some(Told {
+        offset: *offset,
+        drift: *drift,
         steps: answer.steps,
-        last: ends_last(ending),
-    }
+        last: matches!(answer.ending, Ending::ExcessIter(_, _, _)),
+    })
 }
 
 // The least of -32 * offset, which has the same answer as that of -offset, and is found in fewer steps.
-fn solved(fit: Fit, edition: u32) -> Told {
+fn solved(fit: Fit, edition: u32) -> Option<Told> {
     let m = fit.m;
     if m > M {
-        return no_answer();
+        return None;
     }
     let c = [-32.0, 0.0];
     let a = matrix(fit);
     let b = readings(fit);
-    let words = [SECOND_ORDER + m as u16; 1];
     let mut work = zeros();
     let mut cone_work = [0.0; 1];
     let par = SolverParam::of(STEPS, 0.0, SolverParam::EPS_INF, SolverParam::EPS_ZERO, 64);
     let answer = solver::solve(
-        SolverParam::with_edition(par, edition),
+        par.with_edition(edition),
         Rows(m),
         Cols(N),
         Storage::Dense,
         &c,
-        &a[0..2 * m],
-        &b[0..m],
-        &words,
+        &a[..2 * m],
+        &b[..m],
+        &[SECOND_ORDER + m as u16],
         &mut work,
         &mut cone_work,
     );
@@ -197,7 +183,10 @@ fn interval_sum(edition: u32) -> f64 {
 fn product(edition: u32, row: &[f64], x: &[f64], y: &mut [f64]) -> f64 {
     let t = MatType::General(Rows(1), Cols(INTERVALS));
     matop_by::op_by(edition, t, 1.0, row, x, 0.0, y);
-    if y.len() == 1 { y[0] } else { 0.0 }
+    match y {
+        [sum] => *sum,
+        _ => 0.0,
+    }
 }
 
 fn miss_norm(edition: u32) -> f64 {
@@ -213,104 +202,95 @@ fn apart(x: f64, y: f64) -> u64 {
 }
 
 // The digits of a number from 1/16 up to 128, without rounding: in parts of 2^-56 it is whole.
-fn write_decimals<P: Print>(out: &P, x: f64) {
+fn write_decimals<P: Print>(out: &P, x: f64) -> io::Result<()> {
     let parts = whole(x * 72057594037927936.0);
-    lines::write_decimal(out, parts / 72057594037927936);
-    lines::write(out, b".");
-    write_fraction(out, parts % 72057594037927936);
+    print!(out; "{}.", parts / 72057594037927936)?;
+    write_fraction(out, parts % 72057594037927936)
 }
 
 // A number without its fraction, 0 where that is none of 64 bits.
 fn whole(x: f64) -> u64 {
-    if -1.0 < x {
-        if x < 18446744073709551616.0 {
-            return std::num::truncating_f64_to_u64(x);
-        }
+    if -1.0 < x && x < 18446744073709551616.0 {
+        std::num::truncating_f64_to_u64(x)
+    } else {
+        0
     }
-    0
 }
 
-fn write_fraction<P: Print>(out: &P, parts: u64) {
+fn write_fraction<P: Print>(out: &P, parts: u64) -> io::Result<()> {
     let mut rest: u64 = parts;
     for _ in 0..DECIMALS {
         rest = (rest % 72057594037927936) * 10;
-        lines::write_decimal(out, rest / 72057594037927936);
+        out.print(rest / 72057594037927936)?;
     }
+    Ok(())
 }
 
-fn write_edition<P: Print>(out: &P, edition: u32) {
+fn name_of(edition: u32) -> &'static str {
     if edition == 1 {
-        lines::write(out, b"  from the left ");
+        "  from the left "
     } else {
-        lines::write(out, b"  by halves     ");
+        "  by halves     "
     }
 }
 
-fn write_number<P: Print>(out: &P, x: f64, exact: f64) {
-    lines::write_pattern(out, patterns::pattern_of(x));
-    lines::write(out, b" ");
-    write_decimals(out, x);
-    lines::write(out, b", off by ");
-    lines::write_decimal(out, apart(x, exact));
+fn write_number<P: Print>(out: &P, x: f64, exact: f64) -> io::Result<()> {
+    let pattern = patterns::pattern_of(x);
+    print!(out; "{pattern:016x} ")?;
+    write_decimals(out, x)?;
+    print!(out; ", off by {}", apart(x, exact))
 }
 
-fn write_sum<P: Print>(out: &P, edition: u32) {
-    write_edition(out, edition);
-    write_number(out, interval_sum(edition), 100.0);
-    lines::write(out, b"\n");
+// A number after the name of an edition of sums.
+fn write_line<P: Print>(out: &P, edition: u32, x: f64, exact: f64) -> io::Result<()> {
+    out.print(name_of(edition))?;
+    write_number(out, x, exact)?;
+    println!(out)
 }
 
-fn write_norm<P: Print>(out: &P, edition: u32) {
-    write_edition(out, edition);
-    write_number(out, miss_norm(edition), 3.0);
-    lines::write(out, b"\n");
-}
-
-fn write_told<P: Print>(out: &P, fit: Fit, edition: u32) {
-    let told = solved(fit, edition);
-    write_edition(out, edition);
-    write_number(out, told.offset, 1.0);
-    lines::write(out, b"; drift ");
-    write_number(out, told.drift, 0.25);
-    if !told.last {
-        lines::write(out, b"; another ending, after ");
-        lines::write_decimal(out, told.steps);
-        lines::write(out, b" steps");
+fn write_told<P: Print>(out: &P, fit: Fit, edition: u32) -> io::Result<()> {
+    let Told {
+        offset,
+        drift,
+        steps,
+        last,
+    } = solved(fit, edition).unwrap_or(Told::NONE);
+    out.print(name_of(edition))?;
+    write_number(out, offset, 1.0)?;
+    out.print("; drift ")?;
+    write_number(out, drift, 0.25)?;
+    if !last {
+        print!(out; "; another ending, after {steps} steps")?;
     }
-    lines::write(out, b"\n");
+    println!(out)
 }
 
-fn write_fit<P: Print>(out: &P, marks: usize, half: f64, bound: f64) {
+fn write_fit<P: Print>(out: &P, marks: usize, half: f64, bound: f64) -> io::Result<()> {
     let fit = Fit {
-        m: std::num::wrapping_add_usize(marks, 1),
+        m: marks.wrapping_add(1),
         half,
         bound,
     };
-    lines::write_decimal(out, marks as u64);
-    lines::write(out, b" marks, 3,000 steps\n");
-    write_told(out, fit, 1);
-    write_told(out, fit, 2);
+    println!(out; "{marks} marks, 3,000 steps")?;
+    write_told(out, fit, 1)?;
+    write_told(out, fit, 2)
 }
 
+fn run<P: Print>(out: &P) -> io::Result<()> {
+    out.println("The sum of 1,000 intervals of 0.1; nearest to the exact sum is 100")?;
+    write_line(out, 1, interval_sum(1), 100.0)?;
+    write_line(out, 2, interval_sum(2), 100.0)?;
+    out.println("The norm of 900 misses of 0.1; nearest to the exact norm is 3")?;
+    write_line(out, 1, miss_norm(1), 3.0)?;
+    write_line(out, 2, miss_norm(2), 3.0)?;
+    out.println("The latest offset of a fit, and its drift; exactly they are 1 and 0.25")?;
+    write_fit(out, 16, 0.0625, 5.0)?;
+    write_fit(out, 100, 0.0078125, 12.5)?;
+    write_fit(out, 400, 0.001953125, 25.0)?;
+    write_fit(out, 900, 0.0009765625, 37.5)
+}
+
+// A write that fails ends the output: to tell of it on standard error takes one more of C's functions, which nothing proves.
 fn main(rt: HostRuntime) {
-    lines::write(
-        &rt,
-        b"The sum of 1,000 intervals of 0.1; nearest to the exact sum is 100\n",
-    );
-    write_sum(&rt, 1);
-    write_sum(&rt, 2);
-    lines::write(
-        &rt,
-        b"The norm of 900 misses of 0.1; nearest to the exact norm is 3\n",
-    );
-    write_norm(&rt, 1);
-    write_norm(&rt, 2);
-    lines::write(
-        &rt,
-        b"The latest offset of a fit, and its drift; exactly they are 1 and 0.25\n",
-    );
-    write_fit(&rt, 16, 0.0625, 5.0);
-    write_fit(&rt, 100, 0.0078125, 12.5);
-    write_fit(&rt, 400, 0.001953125, 25.0);
-    write_fit(&rt, 900, 0.0009765625, 37.5);
+    let _ = run(&rt);
 }

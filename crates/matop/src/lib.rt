@@ -61,8 +61,5 @@ pub(crate) fn operate(
 pub(crate) fn is_empty(t: MatType) -> bool
     ensures { result ≡ is_empty t }
 {
-    if matrix::height(false, t) == 0 {
-        return true;
-    }
-    matrix::width(false, t) == 0
+    matrix::height(false, t) == 0 || matrix::width(false, t) == 0
 }

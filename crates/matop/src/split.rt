@@ -70,17 +70,13 @@ fn operate(
     let rows = shape.rows;
     let cols = shape.cols;
     let first = shape.first;
-    let storage = shape.storage;
-    match storage {
+    match shape.storage {
         Storage::Dense => split_transform::transform_split(
             transpose, rows, cols, first, alpha, a1, a2, x, beta, y,
         ),
         // it is square, and stands in the first slice
         Storage::Packed => {
-            if rows.0 != cols.0 {
-                return false;
-            }
-            if a2.len() != 0 {
+            if rows.0 != cols.0 || a2.len() != 0 {
                 return false;
             }
             packed_transform::transform_sp(rows, alpha, a1, x, beta, y)
@@ -94,12 +90,8 @@ fn operands_fit(transpose: bool, shape: Shape, a1: &[f64], a2: &[f64], x: &[f64]
         ≡ operands_fit transpose shape (slices a1.now a2.now) x.now
         y.now }
 {
-    if !shape::parts_fit(shape, a1, a2) {
-        return false;
-    }
     let t = shape::matrix_of(shape);
-    if x.len() != matrix::width(transpose, t) {
-        return false;
-    }
-    y.len() == matrix::height(transpose, t)
+    shape::parts_fit(shape, a1, a2)
+        && x.len() == matrix::width(transpose, t)
+        && y.len() == matrix::height(transpose, t)
 }

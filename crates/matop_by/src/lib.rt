@@ -1,5 +1,6 @@
 // The operators of matop.rs, by edition: those of edition one, or the same with their sums by halves.
-#![tactic(auto)]
+// Twins here and in split.rt stay two: each is one test and two calls, which a function of both would only take as parameters.
+#![tactic(auto, using(crate::proofs::ByEdition::op_one, crate::proofs::ByEdition::trans_op_one, crate::proofs::ByEdition::op_two, crate::proofs::ByEdition::trans_op_two, crate::proofs::ByEdition::none_beside))]
 
 pub mod split;
 
@@ -23,10 +24,10 @@ pub fn op_by(
         (opped_by edition t alpha mat.now x.now beta y.old) y.old result
         y.new }
 {
-    if edition != 2 {
-        return matop::op(t, alpha, mat, x, beta, y);
+    match edition {
+        2 => halved_transform::op_by_halves(false, t, alpha, mat, &[], x, beta, y),
+        _ => matop::op(t, alpha, mat, x, beta, y),
     }
-    halved_transform::op_by_halves(false, t, alpha, mat, &mat[..0], x, beta, y)
 }
 
 // y becomes alpha * matrix transposed * x + beta * y.
@@ -43,8 +44,8 @@ pub fn trans_op_by(
         (trans_opped_by edition t alpha mat.now x.now beta y.old) y.old result
         y.new }
 {
-    if edition != 2 {
-        return matop::trans_op(t, alpha, mat, x, beta, y);
+    match edition {
+        2 => halved_transform::op_by_halves(true, t, alpha, mat, &[], x, beta, y),
+        _ => matop::trans_op(t, alpha, mat, x, beta, y),
     }
-    halved_transform::op_by_halves(true, t, alpha, mat, &mat[..0], x, beta, y)
 }

@@ -24,10 +24,10 @@ pub fn op_by(
         (opped_by edition (matrix_in shape) alpha (joined a) x.now beta y.old)
         y.old result y.new }
 {
-    if edition != 2 {
-        return matop::split::op(shape, alpha, a1, a2, x, beta, y);
+    match edition {
+        2 => by_halves(false, shape, alpha, a1, a2, x, beta, y),
+        _ => matop::split::op(shape, alpha, a1, a2, x, beta, y),
     }
-    by_halves(false, shape, alpha, a1, a2, x, beta, y)
 }
 
 // y becomes alpha * A transposed * x + beta * y.
@@ -46,10 +46,10 @@ pub fn trans_op_by(
         (trans_opped_by edition (matrix_in shape) alpha (joined a) x.now beta y.old)
         y.old result y.new }
 {
-    if edition != 2 {
-        return matop::split::trans_op(shape, alpha, a1, a2, x, beta, y);
+    match edition {
+        2 => by_halves(true, shape, alpha, a1, a2, x, beta, y),
+        _ => matop::split::trans_op(shape, alpha, a1, a2, x, beta, y),
     }
-    by_halves(true, shape, alpha, a1, a2, x, beta, y)
 }
 
 // What both are in edition two.
@@ -68,9 +68,7 @@ fn by_halves(
         (operated_by_halves transpose (matrix_in shape) alpha (joined a) x.now beta y.old)
         y.old result y.new }
 {
-    if !shape::parts_fit(shape, a1, a2) {
-        return false;
-    }
     let t = shape::matrix_of(shape);
-    halved_transform::op_by_halves(transpose, t, alpha, a1, a2, x, beta, y)
+    shape::parts_fit(shape, a1, a2)
+        && halved_transform::op_by_halves(transpose, t, alpha, a1, a2, x, beta, y)
 }

@@ -11,7 +11,7 @@ ghost use Rattle.matrix.specs.Counted.{counted_triangle};
 use rules::{Cols, LIMIT, MatType, Rows};
 
 // The largest order whose triangle 64 bits can count.
-const LARGEST_ORDER: usize = 4294967295;
+const LARGEST_ORDER: usize = u32::MAX as usize;
 
 // How many numbers a packed triangle of order n has, and how many stand before its column n; of an order above the largest, the largest
 // number there is.
@@ -19,7 +19,7 @@ pub fn triangle(n: usize) -> usize
     ensures { result ≡ counted_triangle n }
 {
     if n > LARGEST_ORDER {
-        return 18446744073709551615;
+        return usize::MAX;
     }
     n * (n + 1) / 2
 }
@@ -74,26 +74,14 @@ fn stored_length(t: MatType) -> usize
 pub fn stored_fits(t: MatType, mat: &[f64]) -> bool
     ensures { result ≡ stored_fits t mat.now }
 {
-    if n_row(t) > LIMIT {
-        return false;
-    }
-    if n_col(t) > LIMIT {
-        return false;
-    }
-    mat.len() == stored_length(t)
+    n_row(t) <= LIMIT && n_col(t) <= LIMIT && mat.len() == stored_length(t)
 }
 
 // Whether the matrix is stored, and x and y have the lengths that its sizes say.
 pub fn transform_fits(transpose: bool, t: MatType, mat: &[f64], x: &[f64], y: &[f64]) -> bool
     ensures { result ≡ transform_fits transpose t mat.now x.now y.now }
 {
-    if !stored_fits(t, mat) {
-        return false;
-    }
-    if x.len() != width(transpose, t) {
-        return false;
-    }
-    y.len() == height(transpose, t)
+    stored_fits(t, mat) && x.len() == width(transpose, t) && y.len() == height(transpose, t)
 }
 
 // The same of a matrix whose numbers stand in two slices, one after the other.
@@ -107,26 +95,14 @@ pub fn joined_fits(
 ) -> bool
     ensures { result ≡ transform_fits transpose t (a1.now ++ a2.now) x.now y.now }
 {
-    if LIMIT < n_row(t) {
-        return false;
-    }
-    if LIMIT < n_col(t) {
+    if LIMIT < n_row(t) || LIMIT < n_col(t) {
         return false;
     }
     let all = stored_length(t);
-    if a1.len() > all {
-        return false;
-    }
-    if a2.len() != all - a1.len() {
-        return false;
-    }
-    if width(transpose, t) != x.len() {
-        return false;
-    }
-    if height(transpose, t) != y.len() {
-        return false;
-    }
-    true
+    a1.len() <= all
+        && a2.len() == all - a1.len()
+        && x.len() == width(transpose, t)
+        && y.len() == height(transpose, t)
 }
 
 // Whether rows and columns are within the limits, and a dense matrix stands in two slices: the first columns in one, the rest in the other.
@@ -136,19 +112,7 @@ pub fn split_fits(rows: Rows, cols: Cols, first: Cols, factory: &[f64], lesson: 
     let m = rows.0;
     let n = cols.0;
     let n1 = first.0;
-    if m > LIMIT {
-        return false;
-    }
-    if n > LIMIT {
-        return false;
-    }
-    if n1 > n {
-        return false;
-    }
-    if factory.len() != m * n1 {
-        return false;
-    }
-    lesson.len() == m * n - factory.len()
+    m <= LIMIT && n <= LIMIT && n1 <= n && factory.len() == m * n1 && lesson.len() == m * (n - n1)
 }
 
 // Whether the matrix stands in the two slices, and x and y have the lengths that its sizes say.
@@ -169,11 +133,5 @@ pub fn split_transform_fits(
     let t = MatType::General(rows, cols);
     let wide = width(transpose, t);
     let high = height(transpose, t);
-    if !split_fits(rows, cols, first, factory, lesson) {
-        return false;
-    }
-    if x.len() != wide {
-        return false;
-    }
-    y.len() == high
+    split_fits(rows, cols, first, factory, lesson) && x.len() == wide && y.len() == high
 }

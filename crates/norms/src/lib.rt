@@ -27,10 +27,8 @@ fn norm_by_halves(smaller: bool, x: &[f64]) -> f64
         let up = f64::from_bits(1623 * 4503599627370496);
         return root::root(sum) * up;
     }
-    if sum == 1.0 / 0.0 {
-        if finite::all_finite(x) {
-            return norm_by_halves(true, x);
-        }
+    if sum == f64::INFINITY && finite::all_finite(x) {
+        return norm_by_halves(true, x);
     }
     root::root(sum)
 }
@@ -39,14 +37,11 @@ fn norm_by_halves(smaller: bool, x: &[f64]) -> f64
 fn squares_by_halves(smaller: bool, x: &[f64]) -> f64
     ensures { result ≡ sum_by_halves (length x.now) (λ k. square_of smaller (at x.now k)) }
 {
-    let n = x.len();
-    if n <= 32 {
+    if x.len() <= 32 {
         return few_squares(smaller, x);
     }
-    let half = n / 2;
-    let first = squares_by_halves(smaller, &x[0..half]);
-    let rest = squares_by_halves(smaller, &x[half..n]);
-    first + rest
+    let (first, rest) = x.split_at(x.len() / 2);
+    squares_by_halves(smaller, first) + squares_by_halves(smaller, rest)
 }
 
 // The same of up to thirty-two numbers.
@@ -54,9 +49,8 @@ fn few_squares(smaller: bool, x: &[f64]) -> f64
     requires { length x.now ≤ 32 }
     ensures { result ≡ sum_by_halves (length x.now) (λ k. square_of smaller (at x.now k)) }
 {
-    let n = x.len();
     let mut terms = [0.0; 32];
-    sum_of_squares(smaller, x, &mut terms[0..n])
+    sum_of_squares(smaller, x, &mut terms[..x.len()])
 }
 
 // The same, with the squares put down as terms.
@@ -64,8 +58,8 @@ fn sum_of_squares(smaller: bool, x: &[f64], terms: &mut [f64]) -> f64
     requires { length terms.old ≡ length x.now }
     ensures { result ≡ sum_by_halves (length x.now) (λ k. square_of smaller (at x.now k)) }
 {
-    for k in 0..terms.len() {
-        terms[k] = square(smaller, x[k]);
+    for (k, term) in terms.iter_mut().enumerate() {
+        *term = square(smaller, x[k]);
     }
     halves::sum_by_halves(terms)
 }

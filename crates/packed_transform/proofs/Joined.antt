@@ -5,7 +5,7 @@ use mathlib.Core.Path.{◌≡◌, refl, ap, ◌∙◌}
 use mathlib.Core.Bool.{Bool}
 use mathlib.Core.List.{List}
 use lib.Ieee.{Float}
-use lib.ListN.{length, take, drop, replicate}
+use lib.ListN.{length, replicate, length-replicate}
 use Rattle.rules.specs.declared.MatType.TheVariants.{SymPack}
 use Rattle.rules.specs.declared.Rows.{Rows}
 use Rattle.rules.specs.Limits.{limit}
@@ -13,16 +13,15 @@ use Rattle.rules.specs.Arithmetic.{◌+ᶠ◌, ◌*ᶠ◌, +0, at, sum_from, eac
 use Rattle.rules.specs.Outcome.{Outcome}
 use Rattle.rules.specs.Vectors.{same_length}
 use Rattle.rules.specs.Matrices.{triangle, Stored, place, entry, product}
-use Rattle.rules.proofs.Arithmetic.{sum_same, each_same}
-use Rattle.rules.proofs.Parts.{put}
+use Rattle.rules.proofs.Arithmetic.{sum_same, each_same, each-length}
 use Rattle.rules.proofs.Slices.{sum_on}
-use Rattle.side_by_side.proofs.SideBySide.{each_after, Lanes, lanes_start, lanes_count, lanes_on, sums_put}
+use Rattle.side_by_side.proofs.SideBySide.{each_after, sums_put}
 use Rattle.packed_transform.specs.Lines.{term, row_on}
 
 -- what each part asks, of as many rows as there are sums
-pub part_asked : {n : Rows} {mat : List Float} {size w : ℕ} {array sums : List Float} (x : List Float) (r : ℕ) → Stored (SymPack n) mat → length x ≡ n.0 → r + w ≤ n.0 → Lanes size w array sums
-    → record { mat_len : length mat ≡ triangle (length x); x_len_bound : length x ≤ limit; sums_in_bounds : r + length (take (w - 0) (drop 0 array)) ≤ length x }
-part_asked {n} {mat} {size} {w} x r s wide rows l = record { mat_len = rw wide s.all; x_len_bound = rw wide s.cols; sums_in_bounds = rw (lanes_count l, wide) rows }
+pub part_asked : {n : Rows} {mat : List Float} {w : ℕ} (sums x : List Float) (r : ℕ) → Stored (SymPack n) mat → length x ≡ n.0 → r + w ≤ n.0 → length sums ≡ w
+    → record { mat_len : length mat ≡ triangle (length x); x_len_bound : length x ≤ limit; sums_in_bounds : r + length sums ≤ length x }
+part_asked sums x r s wide rows l = record { mat_len = rw wide s.all; x_len_bound = rw wide s.cols; sums_in_bounds = rw (l, wide) rows }
 
 module _ (mat x : List Float) (r : ℕ) where
   parts_join : (sum_so_far : Float) (a b : ℕ) → a ≤ b → row_on (row_on sum_so_far mat x r 0 a) mat x r a b ≡ row_on sum_so_far mat x r 0 b
@@ -46,29 +45,17 @@ module _ (mat x : List Float) (r : ℕ) where
   three_join : (n : Rows) (a b : ℕ) → a ≤ b → b ≤ length x → row_on (row_on (row_on +0 mat x r 0 a) mat x r a b) mat x r b (length x) ≡ product (entry (SymPack n) mat) x r
   three_join n a b h l = rw (parts_join +0 a b h, parts_join +0 b (length x) l) (whole n)
 
--- As many sums as there are places of y stand at the front of an array of +0, are lent to each part in turn, and are put into y: then y has the products of the rows.
-module _ (n : Rows) (mat x : List Float) (r size w : ℕ) (few : w ≤ size) (back back₂ back₃ : List Float) where
-  abbrev lent : List Float → List Float
-  lent array = take (w - 0) (drop 0 array)
-
-  abbrev array : List Float
-  array = put 0 w (replicate size +0) back
-
-  abbrev array₂ : List Float
-  array₂ = put 0 w array back₂
-
-  abbrev array₃ : List Float
-  array₃ = put 0 w array₂ back₃
-
-  pub rows_put : (alpha beta : Float) (y : List Float) {done : Bool} {y' : List Float} → length x ≡ n.0 → length y ≡ w → r + w ≤ n.0
-      → back ≡ each (λ k so_far. row_on so_far mat x (r + k) 0 r) (lent (replicate size +0))
-      → back₂ ≡ each (λ k so_far. row_on so_far mat x (r + k) r (r + length (lent array))) (lent array)
-      → back₃ ≡ each (λ k so_far. row_on so_far mat x (r + k) (r + length (lent array₂)) (length x)) (lent array₂)
-      → Outcome (same_length (lent array₃) y) (each (λ k v. alpha *ᶠ at (lent array₃) k +ᶠ beta *ᶠ v) y) y done y'
-      → y' ≡ each (λ k v. alpha *ᶠ product (entry (SymPack n) mat) x (r + k) +ᶠ beta *ᶠ v) y
-  rows_put alpha beta y wide high rows left across right put_all_lem =
-      let l = lanes_on (lanes_start size w few) _ back left in
-      let l₂ = lanes_on l _ back₂ across in
-      let l₃ = lanes_on l₂ _ back₃ right in
-      sums_put alpha beta _ w y (lent array₃) high (l₃.are ∙ ap (each _) (each_after _ _ _) ∙ each_after _ _ _) put_all_lem
-      ∙ rw (lanes_count l, lanes_count l₂) (each_same _ _ y (λ k h. rw (three_join mat x (r + k) n r (r + w) (omega arith) (rw wide rows))))
+-- As many sums as there are places of y, +0 each, are lent to each part in turn, and are put into y: then y has the products of the rows.
+pub rows_put : (n : Rows) (mat x : List Float) (r w : ℕ) (alpha beta : Float) (y : List Float) {s s₂ s₃ : List Float} {done : Bool} {y' : List Float} → length x ≡ n.0 → length y ≡ w → r + w ≤ n.0
+    → s ≡ each (λ k so_far. row_on so_far mat x (r + k) 0 r) (replicate w +0)
+    → s₂ ≡ each (λ k so_far. row_on so_far mat x (r + k) r (r + length s)) s
+    → s₃ ≡ each (λ k so_far. row_on so_far mat x (r + k) (r + length s₂) (length x)) s₂
+    → Outcome (same_length s₃ y) (each (λ k v. alpha *ᶠ at s₃ k +ᶠ beta *ᶠ v) y) y done y'
+    → y' ≡ each (λ k v. alpha *ᶠ product (entry (SymPack n) mat) x (r + k) +ᶠ beta *ᶠ v) y
+rows_put n mat x r w alpha beta y {s} {s₂} {s₃} wide high rows left across right put_all_lem =
+    let l : length s ≡ w = ap length left ∙ each-length _ _ ∙ length-replicate w +0 in
+    let l₂ : length s₂ ≡ w = ap length across ∙ each-length _ _ ∙ l in
+    let all : s₃ ≡ each (λ k so_far. row_on so_far mat x (r + k) (r + length s₂) (length x)) (each (λ k so_far. row_on so_far mat x (r + k) r (r + length s)) (each (λ k so_far. row_on so_far mat x (r + k) 0 r) (replicate w +0)))
+    = right ∙ ap (each (λ k so_far. row_on so_far mat x (r + k) (r + length s₂) (length x))) (across ∙ ap (each (λ k so_far. row_on so_far mat x (r + k) r (r + length s))) left) in
+    sums_put alpha beta _ w y s₃ high (all ∙ ap (each _) (each_after _ _ _) ∙ each_after _ _ _) put_all_lem
+    ∙ rw (l, l₂) (each_same _ _ y (λ k h. rw (three_join mat x (r + k) n r (r + w) (omega arith) (rw wide rows))))

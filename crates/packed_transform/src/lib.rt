@@ -1,4 +1,4 @@
-// The product with a symmetric matrix, packed.
+// The product with a symmetric matrix, packed. Its loops over columns count (d): row and column make the place.
 #![tactic(auto)]
 
 ghost use Rattle.std.specs.Prelude.{◌+◌, ◌≤◌, ◌<◌, ◌≡◌, false, length};
@@ -34,52 +34,44 @@ fn packed_rows(n: Rows, alpha: f64, mat: &[f64], x: &[f64], beta: f64, y: &mut [
         ≡ transformed alpha (entry (SymPack n) mat.now) x.now beta y.old }
 {
     let m = n.0;
+    // (c) chunks_mut tells a proof nothing of what is written through it
     let mut r: usize = 0;
     while r < m {
         if r + 8 <= m {
-            eight_rows(n, alpha, mat, x, beta, &mut y[r..r + 8], r);
-            r = r + 8;
+            rows_at::<8>(n, alpha, mat, x, beta, &mut y[r..r + 8], r);
+            r += 8;
             continue;
         }
-        one_row(n, alpha, mat, x, beta, &mut y[r..r + 1], r);
-        r = r + 1;
+        rows_at::<1>(n, alpha, mat, x, beta, &mut y[r..r + 1], r);
+        r += 1;
     }
 }
 
-// The products of rows r to r + 7: left of the square that they have on the diagonal, across it, and right of it.
-fn eight_rows(n: Rows, alpha: f64, mat: &[f64], x: &[f64], beta: f64, y: &mut [f64], r: usize)
+// The products of W rows from r on: left of the square that they have on the diagonal, across it, and right of it.
+fn rows_at<const W: usize>(
+    n: Rows,
+    alpha: f64,
+    mat: &[f64],
+    x: &[f64],
+    beta: f64,
+    y: &mut [f64],
+    r: usize,
+)
     requires stored { Stored (SymPack n) mat.now }
     requires x_len { length x.now ≡ n.0 }
-    requires y_len { length y.old ≡ 8 }
-    requires r_bound { r + 8 ≤ n.0 }
+    requires y_len { length y.old ≡ W }
+    requires r_bound { r + W ≤ n.0 }
     ensures { y.new
         ≡ each
         (λ k v. alpha *ᶠ product (entry (SymPack n) mat.now) x.now (r + k) +ᶠ beta *ᶠ v)
         y.old }
 {
-    let mut sums = [0.0; 8];
-    left_of(&mut sums[0..8], mat, x, r);
-    across(&mut sums[0..8], mat, x, r);
-    right_of(&mut sums[0..8], mat, x, r);
-    side_by_side::put_sums(alpha, &sums[0..8], beta, y);
-}
-
-// The product of row r, in the same way.
-fn one_row(n: Rows, alpha: f64, mat: &[f64], x: &[f64], beta: f64, y: &mut [f64], r: usize)
-    requires stored { Stored (SymPack n) mat.now }
-    requires x_len { length x.now ≡ n.0 }
-    requires y_len { length y.old ≡ 1 }
-    requires r_lt_n { r < n.0 }
-    ensures { y.new
-        ≡ each
-        (λ k v. alpha *ᶠ product (entry (SymPack n) mat.now) x.now (r + k) +ᶠ beta *ᶠ v)
-        y.old }
-{
-    let mut sums = [0.0; 1];
-    left_of(&mut sums[0..1], mat, x, r);
-    across(&mut sums[0..1], mat, x, r);
-    right_of(&mut sums[0..1], mat, x, r);
-    side_by_side::put_sums(alpha, &sums[0..1], beta, y);
+    let mut array = [0.0; W];
+    let sums = &mut array[..];
+    left_of(sums, mat, x, r);
+    across(sums, mat, x, r);
+    right_of(sums, mat, x, r);
+    side_by_side::put_sums(alpha, sums, beta, y);
 }
 
 // Rows r, r + 1 and so on times x, over the columns before r, each added to its sum so far.
@@ -91,8 +83,8 @@ fn left_of(sums: &mut [f64], mat: &[f64], x: &[f64], r: usize)
         ≡ each (λ k so_far. row_on so_far mat.now x.now (r + k) 0 r) sums.old }
 {
     for c in 0..r {
-        for k in 0..sums.len() {
-            sums[k] = sums[k] + mat[triangle(r + k) + c] * x[c];
+        for (k, sum) in sums.iter_mut().enumerate() {
+            *sum += mat[triangle(r + k) + c] * x[c];
         }
     }
 }
@@ -109,8 +101,8 @@ fn across(sums: &mut [f64], mat: &[f64], x: &[f64], r: usize)
 {
     let end = r + sums.len();
     for c in r..end {
-        for k in 0..sums.len() {
-            sums[k] = sums[k] + mat[place(r + k, c)] * x[c];
+        for (k, sum) in sums.iter_mut().enumerate() {
+            *sum += mat[place(r + k, c)] * x[c];
         }
     }
 }
@@ -129,8 +121,8 @@ fn right_of(sums: &mut [f64], mat: &[f64], x: &[f64], r: usize)
     let end = x.len();
     for c in start..end {
         let top = triangle(c) + r;
-        for k in 0..sums.len() {
-            sums[k] = sums[k] + mat[top + k] * x[c];
+        for (k, sum) in sums.iter_mut().enumerate() {
+            *sum += mat[top + k] * x[c];
         }
     }
 }

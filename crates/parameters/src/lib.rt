@@ -2,7 +2,7 @@
 #![tactic(auto)]
 
 ghost use Rattle.std.specs.Prelude.{◌≡◌};
-ghost use Rattle.rules.specs.Refusals.{bad_eps, bad_param};
+ghost use Rattle.rules.specs.Refusals.{bad_eps, bad_tolerance, bad_param};
 ghost use Rattle.rules.specs.Problem.{as_read};
 
 use finite::is_finite;
@@ -12,41 +12,25 @@ use rules::{MOST_STEPS, MOST_SWEEPS, SolverParam};
 fn bad_eps(eps: f64) -> bool
     ensures { result ≡ bad_eps eps }
 {
-    if !is_finite(eps) {
-        return true;
-    }
-    eps < 0.0
+    !is_finite(eps) || eps < 0.0
+}
+
+// Whether one of the tolerances is.
+fn bad_tolerance(par: SolverParam) -> bool
+    ensures { result ≡ bad_tolerance par }
+{
+    bad_eps(par.eps_acc) || bad_eps(par.eps_inf) || bad_eps(par.eps_zero)
 }
 
 // Whether one of them is outside its range.
 pub fn bad_param(par: SolverParam) -> bool
     ensures { result ≡ bad_param par }
 {
-    let eps_acc = par.eps_acc;
-    let eps_inf = par.eps_inf;
-    let eps_zero = par.eps_zero;
-    if bad_eps(eps_acc) {
-        return true;
-    }
-    if bad_eps(eps_inf) {
-        return true;
-    }
-    if bad_eps(eps_zero) {
-        return true;
-    }
-    if par.max_iter > MOST_STEPS {
-        return true;
-    }
-    if par.sweep_limit < 1 {
-        return true;
-    }
-    if par.sweep_limit > MOST_SWEEPS {
-        return true;
-    }
-    if par.edition == 1 {
-        return false;
-    }
-    par.edition != 2
+    bad_tolerance(par)
+        || par.max_iter > MOST_STEPS
+        || par.sweep_limit < 1
+        || par.sweep_limit > MOST_SWEEPS
+        || !matches!(par.edition, 1..=2)
 }
 
 // An eps_zero of -0 is read as +0.
@@ -54,7 +38,7 @@ pub fn read_eps(par: SolverParam) -> SolverParam
     ensures { result ≡ as_read par }
 {
     if par.eps_zero == 0.0 {
-        return SolverParam::with_eps_zero(par, 0.0);
+        return par.with_eps_zero(0.0);
     }
     par
 }

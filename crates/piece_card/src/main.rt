@@ -11,9 +11,8 @@ mod text;
 ghost use Rattle.std.specs.Prelude.{◌+◌, ◌<◌};
 
 use card_file::ENOUGH;
-use card_input::{Input, Number};
 use piece_rules::RunRecord;
-use state::{CONE_WORK, State, WORDS, WORK};
+use state::{CONE_WORK, WORDS, WORK};
 use std::rt::{Env, Files, Runtime};
 
 fn main(rt: HostRuntime) {
@@ -38,7 +37,7 @@ fn take_piece<R: Runtime>(rt: &R, i: usize)
     requires { i + 2 < 18446744073709551616 }
 {
     let mut bytes = [0u8; ENOUGH];
-    if let Input::Read(length) = card_input::read_argument(rt, i, &mut bytes) {
+    if let Some(length) = card_input::read_argument(rt, i, &mut bytes) {
         take_piece_of(rt, &bytes[..length], i);
     }
 }
@@ -47,34 +46,16 @@ fn take_piece_of<R: Runtime>(rt: &R, card: &[u8], i: usize)
     requires { i + 2 < 18446744073709551616 }
 {
     match card_input::number_argument(rt, i + 1) {
-        Number::None => tell_use(rt),
-        Number::Is(given) => {
-            if is_none(rt, i + 2) {
-                begin(rt, card, given);
-            } else {
-                go_on(rt, card, given, i + 2);
-            }
-        }
+        None => tell_use(rt),
+        Some(given) if is_none(rt, i + 2) => begin(rt, card, given),
+        Some(given) => go_on(rt, card, given, i + 2),
     }
 }
 
 // Whether an argument names no state.
 fn is_none<R: Env>(rt: &R, i: usize) -> bool {
-    if !card_input::is_argument(rt, i) {
-        return true;
-    }
     let mut name = [0u8; 2];
-    match rt.arg(i, &mut name) {
-        Ok(length) => is_dash(&name[..length]),
-        Err(_) => false,
-    }
-}
-
-fn is_dash(name: &[u8]) -> bool {
-    if name.len() != 1 {
-        return false;
-    }
-    name[0] == b'-'
+    !card_input::is_argument(rt, i) || matches!(rt.arg(i, &mut name), Ok(1)) && name[0] == b'-'
 }
 
 fn begin<R: Print + Eprint>(rt: &R, card: &[u8], given: u32) {
@@ -84,21 +65,15 @@ fn begin<R: Print + Eprint>(rt: &R, card: &[u8], given: u32) {
     text::write_told(rt, told, &work, &cone_work);
 }
 
-// Goes on from the state that an argument names.
+// Goes on from the state that an argument names. Why its file can't be read is told where it is read.
 fn go_on<R: Env + Files + Print + Eprint>(rt: &R, card: &[u8], given: u32, i: usize) {
-    let mut words = [0u64; WORDS];
-    match state::read_state(rt, i, &mut words) {
-        State::Read(record) => go_on_from(rt, card, given, record, &words),
-        State::NoFile => {}
-        State::NoMark => text::write_damaged(rt, "it has no line `state`"),
-        State::NoWords => text::write_damaged(
-            rt,
-            "it has not 595 lines of 16 hexadecimal digits after `state`",
-        ),
-        State::NoRecord => text::write_damaged(
-            rt,
-            "its first 21 words are not the record of a run",
-        ),
+    let mut bytes = [0u8; state::MOST];
+    if let Some(length) = card_input::read_file(rt, i, &mut bytes) {
+        let mut words = [0u64; WORDS];
+        match state::read_state(&bytes[..length], &mut words) {
+            Ok(record) => go_on_from(rt, card, given, record, &words),
+            Err(damage) => text::write_damaged(rt, damage),
+        }
     }
 }
 
@@ -107,28 +82,10 @@ fn go_on_from<R: Print + Eprint>(
     card: &[u8],
     given: u32,
     record: RunRecord,
-    words: &[u64; WORDS],
+    words: &[u64],
 ) {
-    let mut work = card_problem::numbers_from(words, state::WORK_AT);
-    let mut cone_work = card_problem::numbers_from(words, state::CONE_WORK_AT);
-    go_on_in(
-        rt,
-        card,
-        given,
-        record,
-        &mut work[0..WORK],
-        &mut cone_work[0..CONE_WORK],
-    );
-}
-
-fn go_on_in<R: Print + Eprint>(
-    rt: &R,
-    card: &[u8],
-    given: u32,
-    record: RunRecord,
-    work: &mut [f64],
-    cone_work: &mut [f64],
-) {
-    let told = card_pieces::later_of_card(card, record, given, work, cone_work);
-    text::write_told(rt, told, work, cone_work);
+    let mut work = card_problem::numbers_from::<WORK>(words, state::WORK_AT);
+    let mut cone_work = card_problem::numbers_from::<CONE_WORK>(words, state::CONE_WORK_AT);
+    let told = card_pieces::later_of_card(card, record, given, &mut work, &mut cone_work);
+    text::write_told(rt, told, &work, &cone_work);
 }

@@ -1,12 +1,8 @@
 // The state of a run as text: the line `state`, and then its words, each on a line as 16 hexadecimal digits. They are
 // the words of the run's record, then the numbers of work, then those of cone work.
-ghost use Rattle.std.specs.Prelude.{◌+◌, ◌≤◌, ◌≡◌, length};
-
-use card_input::Input;
 use piece_rules::RunRecord;
-use run_record::{RECORD_WORDS, ReadRecord};
-use std::io;
-use std::rt::{Env, Files};
+use run_record::RECORD_WORDS;
+use std::{fmt, io};
 
 pub(crate) const WORK: usize = card_answer::WORK;
 
@@ -19,129 +15,75 @@ pub(crate) const CONE_WORK_AT: usize = WORK_AT + WORK;
 
 pub(crate) const WORDS: usize = CONE_WORK_AT + CONE_WORK;
 
-// Longer than any file with a state.
-const MOST: usize = card_text::TEXT_ROOM + 17 * WORDS + 100;
+// How long a word's line is: 16 digits, and the line's end.
+const LINE: usize = 17;
 
-// The record of a state whose words were read, or why there is none. Of a file that can't be read, standard error has
-// the reason.
+// Longer than any file with a state.
+pub(crate) const MOST: usize = card_text::TEXT_ROOM + LINE * WORDS + 100;
+
+// Why a file has no state.
 #[derive(Clone, Copy)]
-pub(crate) enum State {
-    Read(RunRecord),
-    NoFile,
+pub(crate) enum Damage {
     NoMark,
     NoWords,
     NoRecord,
 }
 
-// Reads the state in the file that an argument names.
-pub(crate) fn read_state<R: Env + Files + Eprint>(
-    rt: &R,
-    i: usize,
-    words: &mut [u64; WORDS],
-) -> State {
-    let mut bytes = [0u8; MOST];
-    match card_input::read_file(rt, i, &mut bytes) {
-        Input::Unreadable => State::NoFile,
-        Input::Read(length) => state_in(&bytes[..length], words),
+impl fmt::Display for Damage {
+    fn fmt<W: fmt::Write>(&self, f: &mut fmt::Formatter<W>) -> fmt::Result {
+        match self {
+            Damage::NoMark => write!(f, "it has no line `state`"),
+            Damage::NoWords => write!(
+                f,
+                "it has not 595 lines of 16 hexadecimal digits after `state`"
+            ),
+            Damage::NoRecord => write!(f, "its first 21 words are not the record of a run"),
+        }
     }
 }
 
-fn state_in(bytes: &[u8], words: &mut [u64; WORDS]) -> State {
-    let at = after_mark(bytes);
-    if at == 0 {
-        return State::NoMark;
-    }
-    if !read_words(&bytes[at..], words) {
-        return State::NoWords;
-    }
-    match run_record::read_record(words) {
-        ReadRecord::No => State::NoRecord,
-        ReadRecord::Read(record) => State::Read(record),
-    }
+// Reads the state in a file, and answers its record.
+pub(crate) fn read_state(bytes: &[u8], words: &mut [u64]) -> Result<RunRecord, Damage> {
+    let lines = after_mark(bytes).ok_or(Damage::NoMark)?;
+    read_words(lines, words).ok_or(Damage::NoWords)?;
+    run_record::read_record(words).ok_or(Damage::NoRecord)
 }
 
-// The place after the line `state`, 0 where there is none.
-fn after_mark(bytes: &[u8]) -> usize
-    ensures { result ≤ length bytes.now }
-{
+// What follows the line `state`.
+fn after_mark(bytes: &[u8]) -> Option<&[u8]> {
     let mut start: usize = 0;
-    for i in 0..bytes.len() {
-        if bytes[i] == b'\n' {
-            if is_mark(&bytes[start..i]) {
-                return i + 1;
+    for (i, &byte) in bytes.iter().enumerate() {
+        if byte == b'\n' {
+            if matches!(&bytes[start..i], [b's', b't', b'a', b't', b'e']) {
+                return Some(&bytes[i + 1..]);
             }
             start = i + 1;
-            continue;
         }
     }
-    0
+    None
 }
 
-fn is_mark(line: &[u8]) -> bool {
-    if line.len() != 5 {
-        return false;
+// Reads the words of the lines, if there are as many as there are to be.
+fn read_words(lines: &[u8], words: &mut [u64]) -> Option<()> {
+    if lines.len() != LINE * WORDS {
+        return None;
     }
-    line[0] == b's' && line[1] == b't' && line[2] == b'a' && line[3] == b't' && line[4] == b'e'
-}
-
-// Whether the lines are as many words as there are to be.
-fn read_words(bytes: &[u8], words: &mut [u64]) -> bool
-    requires { length words.old ≡ 595 }
-{
-    if bytes.len() != 17 * WORDS {
-        return false;
+    for (line, word) in lines.chunks_exact(LINE).zip(words.iter_mut()) {
+        *word = word_of(line)?;
     }
-    for i in 0..WORDS {
-        match word_of(bytes, 17 * i) {
-            Line::No => {
-                return false;
-            }
-            Line::Word(word) => {
-                words[i] = word;
-            }
-        }
-    }
-    true
+    Some(())
 }
 
 // What a line says.
-#[derive(Clone, Copy)]
-enum Line {
-    Word(u64),
-    No,
-}
-
-#[tactic(auto, using(crate::proofs::Words::one_more))]
-fn word_of(bytes: &[u8], at: usize) -> Line
-    requires { at + 17 ≤ length bytes.now }
-{
-    let mut word: u64 = 0;
-    for k in 0..16usize {
-        let digit = digit_of(bytes[at + k]);
-        if digit > 15 {
-            return Line::No;
-        }
-        word = word * 16 + digit;
+fn word_of(line: &[u8]) -> Option<u64> {
+    let digits = line.strip_suffix(b"\n")?;
+    if !digits
+        .iter()
+        .all(|digit| matches!(digit, b'0'..=b'9' | b'a'..=b'f'))
+    {
+        return None;
     }
-    if bytes[at + 16] == b'\n' {
-        return Line::Word(word);
-    }
-    Line::No
-}
-
-// A hexadecimal digit, 16 where it is none.
-fn digit_of(byte: u8) -> u64 {
-    if b'0' <= byte && byte <= b'9' {
-        return wide(byte - b'0');
-    }
-    if b'a' <= byte && byte <= b'f' {
-        return wide(byte - b'a' + 10);
-    }
-    16
-}
-
-fn wide(x: u8) -> u64 {
-    x as u64
+    u64::from_str_radix(str::from_utf8(digits).ok()?, 16).ok()
 }
 
 // Writes a state.
@@ -154,22 +96,17 @@ pub(crate) fn write_state<P: Print>(
     let mut words = [0u64; RECORD_WORDS];
     run_record::write_record(record, &mut words);
     println!(out; "state")?;
-    write_words(out, &words)?;
+    for &word in &words {
+        write_word(out, word)?;
+    }
     write_numbers(out, work)?;
     write_numbers(out, cone_work)
 }
 
-fn write_words<P: Print>(out: &P, words: &[u64]) -> io::Result<()> {
-    for i in 0..words.len() {
-        write_word(out, words[i])?;
-    }
-    Ok(())
-}
-
 // Writes numbers, each on a line.
 pub(crate) fn write_numbers<P: Print>(out: &P, numbers: &[f64]) -> io::Result<()> {
-    for i in 0..numbers.len() {
-        write_word(out, patterns::pattern_of(numbers[i]))?;
+    for &number in numbers {
+        write_word(out, patterns::pattern_of(number))?;
     }
     Ok(())
 }

@@ -1,22 +1,21 @@
 // What became of a piece, as text on standard output.
 use crate::state;
-use card_answer::ToldLogged;
-use card_pieces::ToldPiece;
+use crate::state::Damage;
+use card::Fault;
+use card_answer::Told;
 use piece_rules::PieceAnswer;
-use rules::{Answer, Cols, Ending, Logged, Rows};
+use rules::{Answer, Ending, Logged};
 use std::io;
 
 pub(crate) fn write_told<R: Print + Eprint>(
     rt: &R,
-    told: ToldPiece,
+    told: Result<Told<PieceAnswer>, Fault>,
     work: &[f64],
     cone_work: &[f64],
 ) {
     let written = match told {
-        ToldPiece::Fault(fault) => write_first(rt, ToldLogged::Fault(fault)),
-        ToldPiece::Answered(rows, cols, answer) => {
-            write_answer(rt, rows, cols, answer, work, cone_work)
-        }
+        Ok(told) => write_answer(rt, told, work, cone_work),
+        Err(fault) => write_first(rt, Err(fault)),
     };
     if let Err(e) = written {
         card_input::fail(rt, "standard output", e);
@@ -24,31 +23,31 @@ pub(crate) fn write_told<R: Print + Eprint>(
 }
 
 // Why a state can't be taken up.
-pub(crate) fn write_damaged<R: Print + Eprint>(rt: &R, why: &str) {
-    if let Err(e) = println!(rt; "State damaged: {why}") {
+pub(crate) fn write_damaged<R: Print + Eprint>(rt: &R, damage: Damage) {
+    if let Err(e) = println!(rt; "State damaged: {damage}") {
         card_input::fail(rt, "standard output", e);
     }
 }
 
 fn write_answer<P: Print>(
     out: &P,
-    rows: Rows,
-    cols: Cols,
-    answer: PieceAnswer,
+    told: Told<PieceAnswer>,
     work: &[f64],
     cone_work: &[f64],
 ) -> io::Result<()> {
+    let Told { rows, cols, answer } = told;
     match answer {
         PieceAnswer::Refused(ending) => {
-            write_first(out, ToldLogged::Answered(rows, cols, turned_away(ending)))
+            let answer = turned_away(ending);
+            write_first(out, Ok(Told { rows, cols, answer }))
         }
         PieceAnswer::StaleRun => println!(out; "Refused 7"),
         PieceAnswer::Halted(record) => {
-            write_halted(out, record.steps, record.rotations)?;
+            println!(out; "Halted {} {}", record.steps, record.rotations)?;
             state::write_state(out, record, work, cone_work)
         }
-        PieceAnswer::Ended(logged, record) => {
-            write_first(out, ToldLogged::Answered(rows, cols, logged))?;
+        PieceAnswer::Ended(answer, record) => {
+            write_first(out, Ok(Told { rows, cols, answer }))?;
             state::write_numbers(out, solution::solution_x(work, cols))?;
             state::write_numbers(out, solution::solution_y(work, rows, cols))?;
             state::write_state(out, record, work, cone_work)
@@ -71,12 +70,8 @@ fn turned_away(ending: Ending) -> Logged {
 }
 
 // The first line of the text that solve_card writes.
-fn write_first<P: Print>(out: &P, told: ToldLogged) -> io::Result<()> {
+fn write_first<P: Print>(out: &P, told: Result<Told<Logged>, Fault>) -> io::Result<()> {
     let mut text = [0u8; card_text::TEXT_ROOM];
     let end = card_text::first_line(told, &mut text);
     out.write_all(&text[..end])
-}
-
-fn write_halted<P: Print>(out: &P, steps: u64, rotations: u64) -> io::Result<()> {
-    println!(out; "Halted {steps} {rotations}")
 }

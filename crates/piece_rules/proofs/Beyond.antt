@@ -1,23 +1,17 @@
 -- A piece keeps the places beyond the required parts, and the length of each buffer.
 use Prim.Native.Nat.{ℕ, zero, suc, ◌-◌, ◌≤◌}
-use native.Mathlib.Omega.{arith}
-use mathlib.Core.Path.{◌≡◌, refl, sym, ◌∙◌}
+use mathlib.Core.Path.{◌≡◌, refl}
 use mathlib.Core.Bool.{Bool, true, false}
 use mathlib.Core.List.{List, ◌++◌}
 use lib.Ieee.{Float}
 use lib.ListN.{length, drop}
-use Rattle.rules.specs.declared.Ending.{Ending}
 use Rattle.rules.specs.declared.Norms.{Norms}
-use Rattle.rules.specs.declared.Refusal.{Refusal}
-use Rattle.rules.specs.declared.Refusal.TheVariants.{Accepted, Refused as TurnedAway}
-use Rattle.rules.specs.declared.Verdict.{Verdict}
-use Rattle.rules.specs.declared.Verdict.TheVariants.{GoesOn, Ends}
 use Rattle.rules.specs.Prepare.{prepared, prepared_norms}
 use Rattle.rules.specs.Product.{cone_work}
 use Rattle.rules.specs.Problem.{Problem, blocks, work_length}
-use Rattle.rules.specs.Refusals.{refusal, read_problem}
+use Rattle.rules.specs.Refusals.{Refusal, Accepted, Refused as TurnedAway, refusal, read_problem}
 use Rattle.rules.specs.Step.{State}
-use Rattle.rules.specs.Run.{Piece, piece_from, Ended, ended_by, left_by}
+use Rattle.rules.specs.Run.{Verdict, GoesOn, Ends, Piece, piece_from, Ended, ended_by, left_by}
 use Rattle.rules.specs.Progress.{Log, untouched, log_from}
 use Rattle.rules.specs.Demands.{work_needed, cone_needed}
 use Rattle.rules.proofs.Accepted.{AllFits, accepted_as_read}

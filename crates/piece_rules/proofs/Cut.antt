@@ -9,13 +9,11 @@ use lib.ListN.{length, drop, length-append, length-drop}
 use lib.Seq.{drop_at}
 use Rattle.rules.specs.declared.Ending.{Ending}
 use Rattle.rules.specs.declared.Norms.{Norms}
-use Rattle.rules.specs.declared.Verdict.{Verdict}
-use Rattle.rules.specs.declared.Verdict.TheVariants.{GoesOn, Ends}
 use Rattle.rules.specs.Arithmetic.{at}
 use Rattle.rules.specs.Product.{cone_work}
 use Rattle.rules.specs.Problem.{Problem, blocks, work_length}
 use Rattle.rules.specs.Step.{State}
-use Rattle.rules.specs.Run.{Piece, going_on, piece_from, state_from, Ended, ended_by, Left, left_by}
+use Rattle.rules.specs.Run.{Verdict, GoesOn, Ends, Piece, going_on, piece_from, state_from, Ended, ended_by, Left, left_by}
 use Rattle.rules.specs.Progress.{Log, log_from, with_log}
 use Rattle.rules.specs.Demands.{GoesByTheRules}
 use Rattle.rules.proofs.Run.{goes_by_the_rules, pieces_join}

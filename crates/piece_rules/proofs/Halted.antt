@@ -8,11 +8,10 @@ use mathlib.Core.List.{List}
 use lib.Ieee.{Float, eq, of_bits}
 use Rattle.rules.specs.declared.Norms.{Norms}
 use Rattle.rules.specs.declared.SolverParam.{SolverParam}
-use Rattle.rules.specs.declared.Verdict.TheVariants.{GoesOn}
 use Rattle.rules.specs.Arithmetic.{+0}
 use Rattle.rules.specs.Problem.{Problem, blocks, eps_zero, as_read}
 use Rattle.rules.specs.Step.{State}
-use Rattle.rules.specs.Run.{Piece, allowance}
+use Rattle.rules.specs.Run.{GoesOn, Piece, allowance}
 use Rattle.rules.specs.Refusals.{read_problem}
 use Rattle.rules.specs.Progress.{Log, untouched, log_from}
 use Rattle.rules.specs.Demands.{step_from, verdict_from, all_pairs_twice, GoesByTheRules}

@@ -6,10 +6,9 @@ use mathlib.Core.List.{List, [], ◌∷◌}
 use lib.Ieee.{Float}
 use lib.ListN.{length}
 use Rattle.rules.specs.declared.Ending.{Ending}
-use Rattle.rules.specs.declared.Refusal.TheVariants.{Accepted, Refused as TurnedAway}
 use Rattle.rules.specs.Problem.{Problem}
 use Rattle.rules.specs.Run.{run}
-use Rattle.rules.specs.Refusals.{refusal, read_problem, left_turned_away}
+use Rattle.rules.specs.Refusals.{Accepted, Refused as TurnedAway, refusal, read_problem, left_turned_away}
 use Rattle.rules.specs.Progress.{untouched, with_log, logged_solved}
 use Rattle.rules.proofs.Accepted.{accepted_as_read}
 use Rattle.rules.proofs.LoggedRuns.{logged_accepted, refused_records_nothing}

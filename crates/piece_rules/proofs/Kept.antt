@@ -4,23 +4,21 @@ use native.Mathlib.Omega.{arith}
 use mathlib.Core.Path.{◌≡◌, refl, ◌∙◌, ap}
 use mathlib.Core.Bool.{Bool, true, false}
 use mathlib.Core.List.{List, [], ◌∷◌, ◌++◌, append_assoc}
+use Rattle.std.specs.Prelude.{Err}
 use lib.Ieee.{Float, nan}
 use lib.ListN.{length, length-append, get_or-append}
 use lib.Seq.{take_at, drop_at, set-get_or}
 use Rattle.rules.specs.declared.Ending.{Ending}
-use Rattle.piece_rules.specs.declared.LaterRefusal.{LaterRefusal}
-use Rattle.piece_rules.specs.declared.LaterRefusal.TheVariants.{Accepted as Taken, Refused as ByTest, StaleRun}
-use Rattle.rules.specs.declared.Refusal.{Refusal}
-use Rattle.rules.specs.declared.Refusal.TheVariants.{Accepted, Refused}
+use Rattle.piece_rules.specs.declared.LaterRefusal.TheVariants.{Refused as ByTest, StaleRun}
 use Rattle.piece_rules.specs.declared.RunRecord.{RunRecord}
 use Rattle.rules.specs.Arithmetic.{at}
 use Rattle.rules.specs.Product.{cone_work}
 use Rattle.rules.specs.Problem.{Problem, blocks, length_x, length_y}
 use Rattle.rules.specs.Step.{State, part}
-use Rattle.rules.specs.Refusals.{Fact, ◌when◌, first_of, facts, as_refusal, refusal, read_problem}
+use Rattle.rules.specs.Refusals.{Refusal, Accepted, Refused, Fact, ◌when◌, first_of, facts, as_refusal, refusal, read_problem}
 use Rattle.rules.specs.Split.{SplitProblem, joined_problem, split_facts, split_refusal}
 use Rattle.rules.proofs.Lengths.{Sized}
-use Rattle.piece_rules.specs.Pieces.{lengths_of, in_work, from_work, with_tau, stale_run, by_tests, then_stale, as_later, later_refusal, later_split_refusal}
+use Rattle.piece_rules.specs.Pieces.{Later, Taken, lengths_of, in_work, from_work, with_tau, stale_run, by_tests, then_stale, as_later, later_refusal, later_split_refusal}
 
 -- ---- six vectors, one after another
 
@@ -115,9 +113,9 @@ module _ (p : Problem) (s : State) (h : Sized p s) (rest : List Float) where
 -- ---- what turns a later piece away
 
 -- what the table of a run says, and then whether the record is stale
-abbrev pub later_by : Refusal → Bool → LaterRefusal
-later_by (Refused e) stale = ByTest e
-later_by Accepted true = StaleRun
+abbrev pub later_by : Refusal → Bool → Later
+later_by (Refused e) stale = Err (ByTest e)
+later_by Accepted true = Err StaleRun
 later_by Accepted false = Taken
 
 -- of any table
@@ -136,10 +134,10 @@ module _ (r : RunRecord) (p : Problem) (work cone log : ℕ) where
   unfolding later_refusal refusal
   later_is = stale_last (facts p work cone) stale
 
-  pub later_refused : (e : Ending) → refusal p work cone ≡ Refused e → later_refusal r p work cone log ≡ ByTest e
+  pub later_refused : (e : Ending) → refusal p work cone ≡ Refused e → later_refusal r p work cone log ≡ Err (ByTest e)
   later_refused e is = rw (later_is, is)
 
-  pub later_stale : refusal p work cone ≡ Accepted → stale ≡ true → later_refusal r p work cone log ≡ StaleRun
+  pub later_stale : refusal p work cone ≡ Accepted → stale ≡ true → later_refusal r p work cone log ≡ Err StaleRun
   later_stale is so = rw (later_is, is, so)
 
   pub later_taken : refusal p work cone ≡ Accepted → stale ≡ false → later_refusal r p work cone log ≡ Taken
@@ -153,10 +151,10 @@ module _ (r : RunRecord) (p : SplitProblem) (work cone log : ℕ) where
   unfolding later_split_refusal split_refusal
   split_later_is = stale_last (split_facts p work cone) split_stale
 
-  pub split_later_refused : (e : Ending) → split_refusal p work cone ≡ Refused e → later_split_refusal r p work cone log ≡ ByTest e
+  pub split_later_refused : (e : Ending) → split_refusal p work cone ≡ Refused e → later_split_refusal r p work cone log ≡ Err (ByTest e)
   split_later_refused e is = rw (split_later_is, is)
 
-  pub split_later_stale : split_refusal p work cone ≡ Accepted → split_stale ≡ true → later_split_refusal r p work cone log ≡ StaleRun
+  pub split_later_stale : split_refusal p work cone ≡ Accepted → split_stale ≡ true → later_split_refusal r p work cone log ≡ Err StaleRun
   split_later_stale is so = rw (split_later_is, is, so)
 
   pub split_later_taken : split_refusal p work cone ≡ Accepted → split_stale ≡ false → later_split_refusal r p work cone log ≡ Taken

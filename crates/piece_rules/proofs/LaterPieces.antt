@@ -9,24 +9,19 @@ use lib.Ieee.{Float}
 use lib.ListN.{length}
 use Rattle.rules.specs.declared.Logged.{Logged}
 use Rattle.rules.specs.declared.Norms.{Norms}
-use Rattle.rules.specs.declared.Refusal.{Refusal}
-use Rattle.rules.specs.declared.Refusal.TheVariants.{Accepted, Refused as TurnedAway}
-use Rattle.rules.specs.declared.Verdict.{Verdict}
-use Rattle.rules.specs.declared.Verdict.TheVariants.{GoesOn, Ends}
 use Rattle.rules.specs.Problem.{Problem}
 use Rattle.rules.specs.Prepare.{prepared, prepared_norms}
-use Rattle.rules.specs.Run.{Piece, piece_from, allowance}
-use Rattle.rules.specs.Refusals.{first_of, facts, as_refusal, refusal, read_problem}
+use Rattle.rules.specs.Run.{Verdict, GoesOn, Ends, Piece, piece_from, allowance}
+use Rattle.rules.specs.Refusals.{Refusal, Accepted, Refused as TurnedAway, first_of, facts, as_refusal, refusal, read_problem}
 use Rattle.rules.specs.Progress.{Log, untouched, log_from}
 use Rattle.rules.specs.Demands.{NumberedFrom}
 use Rattle.rules.proofs.Run.{goes_by_the_rules}
 use Rattle.rules.proofs.Accepted.{accepted_as_read}
-use Rattle.piece_rules.specs.declared.LaterRefusal.TheVariants.{Accepted as Taken}
 use Rattle.piece_rules.specs.declared.PieceAnswer.{PieceAnswer}
 use Rattle.piece_rules.specs.declared.PieceAnswer.TheVariants.{Refused, StaleRun, Halted, Ended}
 use Rattle.piece_rules.specs.declared.RunLengths.{RunLengths}
 use Rattle.piece_rules.specs.declared.RunRecord.{RunRecord}
-use Rattle.piece_rules.specs.Pieces.{PieceLeft, lengths_with, left_by_piece, first_taken, later_taken, log_kept, stale_run, by_tests, as_later, piece_number, no_counts, piece_counts, later_number, later_facts, later_refusal, kept_with, first_after, later_after, first_piece, later_piece, PieceAs}
+use Rattle.piece_rules.specs.Pieces.{Taken, PieceLeft, lengths_with, left_by_piece, first_taken, later_taken, log_kept, stale_run, by_tests, as_later, piece_number, no_counts, piece_counts, later_number, later_facts, later_refusal, kept_with, first_after, later_after, first_piece, later_piece, PieceAs}
 use Rattle.piece_rules.specs.InPieces.{gone_on, gone_on_by, all_steps, held, TakenUpByTheRules, PieceTurnedAwayBy}
 use Rattle.piece_rules.specs.Stale.{Stale}
 use Rattle.piece_rules.proofs.Kept.{later_by, later_is}

@@ -9,7 +9,6 @@ use lib.Ieee.{Float}
 use lib.ListN.{length, take, drop, length-append, length-take}
 use lib.Seq.{take_at}
 use Rattle.rules.specs.declared.Norms.{Norms}
-use Rattle.rules.specs.declared.Refusal.TheVariants.{Accepted}
 use Rattle.rules.specs.Arithmetic.{at}
 use Rattle.rules.specs.Product.{is_none, cone_work}
 use Rattle.rules.specs.Problem.{Problem, embed, blocks, work_length}
@@ -17,7 +16,7 @@ use Rattle.rules.specs.Step.{State}
 use Rattle.rules.specs.Criteria.{tau_of}
 use Rattle.rules.specs.Prepare.{prepared, prepared_norms}
 use Rattle.rules.specs.Run.{WholeStep, whole_step, state_from, run}
-use Rattle.rules.specs.Refusals.{refusal, read_problem}
+use Rattle.rules.specs.Refusals.{Accepted, refusal, read_problem}
 use Rattle.rules.specs.Progress.{is_due, row_of, Log, untouched, row_fits, row_put, log_row, log_step, log_from, log_after}
 use Rattle.rules.specs.Demands.{state_after, rotations_up_to, work_needed, cone_needed}
 use Rattle.rules.proofs.Progress.{step_without_row, step_with_row, row_written, row_dropped, log_none, log_more}

@@ -11,13 +11,11 @@ use lib.Seq.{take-append-add, drop-append-add}
 use Rattle.rules.specs.declared.Criteria.{Criteria}
 use Rattle.rules.specs.declared.Criteria.TheVariants.{Conv, Inf}
 use Rattle.rules.specs.declared.Norms.{Norms}
-use Rattle.rules.specs.declared.Verdict.{Verdict}
-use Rattle.rules.specs.declared.Verdict.TheVariants.{GoesOn, Ends}
 use Rattle.rules.specs.Product.{is_none}
 use Rattle.rules.specs.Problem.{Problem, embed}
 use Rattle.rules.specs.Step.{State}
 use Rattle.rules.specs.Criteria.{tau_of}
-use Rattle.rules.specs.Run.{WholeStep, whole_step, verdict, state_from, Piece, going_on, piece_from}
+use Rattle.rules.specs.Run.{Verdict, GoesOn, Ends, WholeStep, whole_step, verdict, state_from, Piece, going_on, piece_from}
 use Rattle.rules.specs.Progress.{is_due, row_of, Log, untouched, row_fits, row_put, log_row, log_step, log_from}
 use Rattle.rules.proofs.Parts.{put_length}
 use Rattle.rules.proofs.Run.{piece_none, piece_more}

@@ -9,10 +9,9 @@ use lib.Ieee.{Float}
 use lib.ListN.{length}
 use Rattle.rules.specs.declared.Ending.{Ending}
 use Rattle.rules.specs.declared.Logged.{Logged}
-use Rattle.rules.specs.declared.Refusal.TheVariants.{Accepted, Refused as TurnedAway}
 use Rattle.rules.specs.Prepare.{prepared, prepared_norms}
 use Rattle.rules.specs.Run.{allowance, run, left_by}
-use Rattle.rules.specs.Refusals.{first_of, facts, as_refusal, read_problem, left_turned_away}
+use Rattle.rules.specs.Refusals.{Accepted, Refused as TurnedAway, first_of, facts, as_refusal, read_problem, left_turned_away}
 use Rattle.rules.specs.Split.{SplitProblem, slices_fit, joined_problem, split_facts, split_refusal}
 use Rattle.rules.specs.Progress.{untouched, LoggedLeft, log_after, with_log, logged_solved, split_logged_solved, LoggedAs}
 use Rattle.rules.specs.Demands.{NumberedFrom, NoneHolds, AnsweredByTheRules, RecordedByTheRules, work_needed, cone_needed, SameOverThree, with_split_period, SameButForTheLog}
@@ -22,10 +21,9 @@ use Rattle.rules.proofs.Answered.{accepted_runs_as_demanded}
 use Rattle.rules.proofs.SplitRuns.{same_refusal, slices_fit_if_accepted}
 use Rattle.rules.proofs.LoggedRuns.{logged_accepted, logged_outcome_is_the_plain, recorded_by_the_rules, split_logged_as_joined, split_refused_records_nothing, split_old_contents_of_three}
 use Rattle.rules.proofs.AnyPeriod.{split_neither_period_nor_log_alters}
-use Rattle.piece_rules.specs.declared.LaterRefusal.TheVariants.{Accepted as Taken}
 use Rattle.piece_rules.specs.declared.PieceAnswer.TheVariants.{Refused, StaleRun, Halted, Ended}
 use Rattle.piece_rules.specs.declared.RunRecord.{RunRecord}
-use Rattle.piece_rules.specs.Pieces.{PieceLeft, lengths_with, first_taken, later_taken, stale_run, by_tests, as_later, later_number, later_split_facts, later_split_refusal, kept_with, first_after, later_after, first_piece, later_piece, first_split_piece, later_split_piece}
+use Rattle.piece_rules.specs.Pieces.{Taken, PieceLeft, lengths_with, first_taken, later_taken, stale_run, by_tests, as_later, later_number, later_split_facts, later_split_refusal, kept_with, first_after, later_after, first_piece, later_piece, first_split_piece, later_split_piece}
 use Rattle.piece_rules.specs.InPieces.{taken_up_by, split_gone_on, split_gone_on_by, split_in_pieces, all_steps, EndsAsUncut, halted_after, SameWhereItHalts, TakenUpByTheRules, PieceTurnedAwayBy, KeptByPiece}
 use Rattle.piece_rules.specs.Stale.{Stale}
 use Rattle.piece_rules.proofs.Kept.{split_later_is}

@@ -8,16 +8,12 @@ use lib.Ieee.{Float}
 use lib.ListN.{length, length-set}
 use lib.Seq.{length-take-le}
 use Rattle.rules.specs.declared.Norms.{Norms}
-use Rattle.rules.specs.declared.Refusal.{Refusal}
-use Rattle.rules.specs.declared.Refusal.TheVariants.{Accepted, Refused}
-use Rattle.rules.specs.declared.Verdict.{Verdict}
-use Rattle.rules.specs.declared.Verdict.TheVariants.{GoesOn, Ends}
 use Rattle.rules.specs.Product.{cone_work}
 use Rattle.rules.specs.Problem.{Problem, blocks, length_x, length_y, work_length}
 use Rattle.rules.specs.Step.{State, part}
 use Rattle.rules.specs.Prepare.{prepared, prepared_norms}
-use Rattle.rules.specs.Run.{Piece, piece_from}
-use Rattle.rules.specs.Refusals.{read_problem}
+use Rattle.rules.specs.Run.{Verdict, GoesOn, Ends, Piece, piece_from}
+use Rattle.rules.specs.Refusals.{Refusal, Accepted, Refused, read_problem}
 use Rattle.rules.specs.Progress.{Log, untouched, log_from}
 use Rattle.rules.proofs.Parts.{part_length}
 use Rattle.rules.proofs.Run.{goes_by_the_rules}

@@ -7,17 +7,15 @@ use mathlib.Core.List.{List, [], ◌∷◌}
 use lib.Ieee.{Float}
 use Rattle.rules.specs.declared.Ending.{Ending}
 use Rattle.rules.specs.declared.Norms.{Norms}
-use Rattle.rules.specs.declared.Verdict.{Verdict}
-use Rattle.rules.specs.declared.Verdict.TheVariants.{GoesOn, Ends}
 use Rattle.rules.specs.Problem.{Problem}
 use Rattle.rules.specs.Step.{State}
-use Rattle.rules.specs.Run.{Piece, piece_from}
+use Rattle.rules.specs.Run.{Verdict, GoesOn, Ends, Piece, piece_from}
 use Rattle.rules.specs.Refusals.{Fact, ◌when◌, First, none_applies, applies, first_of, as_refusal}
 use Rattle.rules.specs.Progress.{Log, log_from}
 use Rattle.rules.specs.Demands.{FirstToHold, NumberedFrom, number_given}
 use Rattle.rules.proofs.Refusals.{given_exactly}
 use Rattle.piece_rules.specs.declared.LaterRefusal.{LaterRefusal}
-use Rattle.piece_rules.specs.declared.LaterRefusal.TheVariants.{Accepted as Taken, Refused as ByTest, StaleRun}
+use Rattle.piece_rules.specs.declared.LaterRefusal.TheVariants.{Refused as ByTest, StaleRun}
 use Rattle.piece_rules.specs.declared.RunLengths.{RunLengths}
 use Rattle.piece_rules.specs.declared.RunRecord.{RunRecord}
 use Rattle.piece_rules.specs.Pieces.{PieceLeft, left_by_piece, steps_taken, later_taken, from_work, with_tau, log_kept, by_tests, as_later, piece_number, later_number, kept_with, first_after, later_after}
@@ -49,13 +47,11 @@ module _ (rows : List (Fact LaterRefusal)) (numbered : NumberedFrom later_number
 
   number_given_lem : (x : First LaterRefusal) → piece_number (after x).answer ≡ number_given later_number x
   number_given_lem none_applies = unnumbered
-  number_given_lem (applies Taken) = unnumbered
   number_given_lem (applies (ByTest e)) = refl
   number_given_lem (applies StaleRun) = refl
 
   kept_or_none : (x : First LaterRefusal) (i : ℕ) → 1 ≤ i → number_given later_number x ≡ i → after x ≡ kept_with (after x).answer work cone log
   kept_or_none none_applies i least e = absurd (omega arith)
-  kept_or_none (applies Taken) i least e = absurd (omega arith)
   kept_or_none (applies (ByTest x)) i least e = refl
   kept_or_none (applies StaleRun) i least e = refl
 

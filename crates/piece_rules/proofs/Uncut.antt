@@ -7,11 +7,9 @@ use mathlib.Core.List.{List, []}
 use lib.Ieee.{Float}
 use Rattle.rules.specs.declared.Answer.{Answer}
 use Rattle.rules.specs.declared.Ending.{Ending}
-use Rattle.rules.specs.declared.Verdict.{Verdict}
-use Rattle.rules.specs.declared.Verdict.TheVariants.{GoesOn, Ends}
 use Rattle.rules.specs.Problem.{Problem}
 use Rattle.rules.specs.Prepare.{prepared, prepared_norms}
-use Rattle.rules.specs.Run.{Piece, piece_from, Ended, ended_by, run, left_by}
+use Rattle.rules.specs.Run.{Verdict, GoesOn, Ends, Piece, piece_from, Ended, ended_by, run, left_by}
 use Rattle.rules.specs.Progress.{untouched, log_after, LoggedLeft, with_log}
 use Rattle.rules.specs.Demands.{verdict_from, verdict_at, GoesByTheRules, EndsFirst, state_after, rotations_up_to}
 use Rattle.rules.proofs.Run.{goes_by_the_rules, ends_first, ends_first_once}

@@ -7,11 +7,9 @@ use lib.Ieee.{Float}
 use lib.ListN.{length}
 use Rattle.rules.specs.declared.Ending.{Ending}
 use Rattle.rules.specs.declared.Logged.{Logged}
-use Rattle.rules.specs.declared.Refusal.{Refusal}
-use Rattle.rules.specs.declared.Refusal.TheVariants.{Accepted, Refused as TurnedAway}
 use Rattle.rules.specs.Problem.{Problem}
 use Rattle.rules.specs.Run.{run, left_by}
-use Rattle.rules.specs.Refusals.{refusal, read_problem}
+use Rattle.rules.specs.Refusals.{Refusal, Accepted, Refused as TurnedAway, refusal, read_problem}
 use Rattle.rules.specs.Progress.{LoggedLeft, log_after, with_log, logged_solved, LoggedAs}
 use Rattle.rules.specs.Demands.{AnsweredByTheRules, RecordedByTheRules, work_needed, cone_needed, SameOverThree, with_period, SameButForTheLog}
 use Rattle.rules.proofs.Columns.{by_less}

@@ -5,11 +5,10 @@ use Rattle.piece_rules.specs.declared.PieceAnswer.{PieceAnswer}
 use Rattle.piece_rules.specs.declared.PieceAnswer.TheVariants.{Refused, StaleRun, Halted, Ended}
 use Rattle.piece_rules.specs.declared.RunLengths.{RunLengths}
 use Rattle.piece_rules.specs.declared.RunRecord.{RunRecord}
-use Rattle.rules.specs.declared.Verdict.TheVariants.{GoesOn}
 use Rattle.rules.specs.Problem.{Problem, blocks}
 use Rattle.rules.specs.Step.{State}
 use Rattle.rules.specs.Prepare.{prepared_norms}
-use Rattle.rules.specs.Run.{Piece, allowance}
+use Rattle.rules.specs.Run.{GoesOn, Piece, allowance}
 use Rattle.rules.specs.Refusals.{Fact}
 use Rattle.rules.specs.Split.{SplitProblem}
 use Rattle.rules.specs.Progress.{LoggedLeft, log_from, log_after}

@@ -1,29 +1,25 @@
 -- Document 02, request (xii): "Stop in the evening, go on in the morning. Add a run that halts after a given number of steps without an ending and is taken up
 -- later from its buffers and a small record".
-use Rattle.std.specs.Prelude.{ℕ, zero, suc, ◌+◌, ◌-◌, ◌*◌, ◌≡◌, Bool, true, false, not, ◌&&◌, ◌||◌, List, [], ◌∷◌, ◌++◌, leb, ltb, eqb, Float, length, take, drop, set}
+use Rattle.std.specs.Prelude.{ℕ, zero, suc, ◌+◌, ◌-◌, ◌*◌, ◌≡◌, Bool, true, false, not, ◌&&◌, ◌||◌, List, [], ◌∷◌, ◌++◌, leb, ltb, eqb, Float, length, take, drop, set, Result, Ok, Err}
 use Rattle.std.specs.Float.{binary64}
 use Rattle.std.specs.Float.Ieee.{to_bits}
 use Rattle.rules.specs.declared.Cone.{Cone}
 use Rattle.rules.specs.declared.Ending.{Ending}
 use Rattle.piece_rules.specs.declared.LaterRefusal.{LaterRefusal}
-use Rattle.piece_rules.specs.declared.LaterRefusal.TheVariants.{Accepted as Taken, Refused as ByTest, StaleRun}
+use Rattle.piece_rules.specs.declared.LaterRefusal.TheVariants.{Refused as ByTest, StaleRun}
 use Rattle.piece_rules.specs.declared.RunLengths.{RunLengths}
 use Rattle.rules.specs.declared.Norms.{Norms}
 use Rattle.piece_rules.specs.declared.PieceAnswer.{PieceAnswer}
 use Rattle.piece_rules.specs.declared.PieceAnswer.TheVariants.{Refused, StaleRun as Stale, Halted, Ended}
-use Rattle.rules.specs.declared.Refusal.{Refusal}
-use Rattle.rules.specs.declared.Refusal.TheVariants.{Accepted, Refused as TurnedAway}
 use Rattle.piece_rules.specs.declared.RunRecord.{RunRecord}
 use Rattle.rules.specs.declared.SolverParam.{SolverParam}
-use Rattle.rules.specs.declared.Verdict.{Verdict}
-use Rattle.rules.specs.declared.Verdict.TheVariants.{GoesOn, Ends}
 use Rattle.rules.specs.Arithmetic.{at}
 use Rattle.rules.specs.Product.{cone_work}
 use Rattle.rules.specs.Problem.{Problem, blocks, as_read, length_x, length_y, work_length}
 use Rattle.rules.specs.Step.{State, part}
 use Rattle.rules.specs.Prepare.{prepared, prepared_norms}
-use Rattle.rules.specs.Run.{Piece, piece_from, allowance, ended_by, left_by}
-use Rattle.rules.specs.Refusals.{Fact, ◌when◌, First, none_applies, applies, first_of, facts, refusal, read_problem, number_of}
+use Rattle.rules.specs.Run.{Verdict, GoesOn, Ends, Piece, piece_from, allowance, ended_by, left_by}
+use Rattle.rules.specs.Refusals.{Refusal, Accepted, Refused as TurnedAway, Fact, ◌when◌, First, none_applies, applies, first_of, facts, refusal, read_problem, number_of}
 use Rattle.rules.specs.Split.{SplitProblem, joined_problem, split_facts, split_refusal}
 use Rattle.rules.specs.Progress.{Log, untouched, log_from, with_log}
 use Rattle.rules.specs.Demands.{all_pairs_twice}
@@ -186,16 +182,23 @@ by_tests ((e when holds) ∷ rows) = (ByTest e when holds) ∷ by_tests rows
 abbrev pub then_stale : List (Fact Ending) → Bool → List (Fact LaterRefusal)
 then_stale rows stale = by_tests rows ++ (StaleRun when stale) ∷ []
 
-abbrev pub as_later : First LaterRefusal → LaterRefusal
+-- what the seven tests say of a later piece: nothing against it, or why it is turned away
+abbrev pub Later : Type 0
+Later = Result (Unit {0}) LaterRefusal
+
+pattern abbrev pub Taken : Later
+Taken = Ok tt
+
+abbrev pub as_later : First LaterRefusal → Later
 as_later none_applies = Taken
-as_later (applies r) = r
+as_later (applies r) = Err r
 
 -- of buffers of these lengths
 module _ (r : RunRecord) (p : Problem) (work cone log : ℕ) where
   abbrev pub later_facts : List (Fact LaterRefusal)
   later_facts = then_stale (facts p work cone) (stale_run r (lengths_of p work cone log) (read_problem p))
 
-  unfoldable pub later_refusal : LaterRefusal
+  unfoldable pub later_refusal : Later
   unfolding first_of by_tests refusal stale_run read_problem
   later_refusal = as_later (first_of later_facts)
 
@@ -204,7 +207,7 @@ module _ (r : RunRecord) (p : SplitProblem) (work cone log : ℕ) where
   later_split_facts =
       then_stale (split_facts p work cone) (stale_run r (lengths_of (joined_problem p) work cone log) (read_problem (joined_problem p)))
 
-  unfoldable pub later_split_refusal : LaterRefusal
+  unfoldable pub later_split_refusal : Later
   unfolding first_of by_tests split_refusal stale_run read_problem
   later_split_refusal = as_later (first_of later_split_facts)
 
@@ -233,7 +236,6 @@ piece_counts (Ended answer r) =
     record { steps = answer.answer.steps; rotations = answer.answer.rotations; written = answer.written; dropped = answer.dropped }
 
 abbrev pub later_number : LaterRefusal → ℕ
-later_number Taken = 0
 later_number (ByTest e) = number_of e
 later_number StaleRun = 7
 
@@ -247,10 +249,10 @@ first_after Accepted taken work cone log = taken
 first_after (TurnedAway e) taken work cone log = kept_with (Refused e) work cone log
 
 -- "the answer is a new refusal 7, StaleRun, .. with all kept"
-abbrev pub later_after : LaterRefusal → PieceLeft → List Float → List Float → List Float → PieceLeft
+abbrev pub later_after : Later → PieceLeft → List Float → List Float → List Float → PieceLeft
 later_after Taken taken work cone log = taken
-later_after (ByTest e) taken work cone log = kept_with (Refused e) work cone log
-later_after StaleRun taken work cone log = kept_with Stale work cone log
+later_after (Err (ByTest e)) taken work cone log = kept_with (Refused e) work cone log
+later_after (Err StaleRun) taken work cone log = kept_with Stale work cone log
 
 module _ (p : Problem) (given : ℕ) (work cone log : List Float) where
   unfoldable pub first_piece : PieceLeft

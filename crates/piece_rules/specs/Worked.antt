@@ -1,5 +1,5 @@
 -- Request (xii) of document 02, cases worked by hand, as rows of one table. `proofs/Worked.antt` proves the one claim that every row holds.
-use Rattle.std.specs.Prelude.{ℕ, Bool, true, false, List, [], ◌∷◌, pos, replicate, take, Float}
+use Rattle.std.specs.Prelude.{ℕ, Bool, true, false, List, [], ◌∷◌, pos, replicate, take, Float, Err}
 use Rattle.std.specs.Float.{nan, inf, fin, binary64}
 use Rattle.std.specs.Float.Ieee.{of_bits, of_int}
 use Rattle.rules.specs.declared.Ending.{Ending}
@@ -12,11 +12,10 @@ use Rattle.rules.specs.Parameters.{param_of, with_eps_zero, defaults}
 use Rattle.rules.specs.Problem.{Problem}
 use Rattle.rules.specs.Demands.{with_period}
 use Rattle.rules.specs.WorkedByHand.{Row, ◌comes-to◌}
-use Rattle.piece_rules.specs.declared.LaterRefusal.{LaterRefusal}
-use Rattle.piece_rules.specs.declared.LaterRefusal.TheVariants.{Accepted as Taken, StaleRun}
+use Rattle.piece_rules.specs.declared.LaterRefusal.TheVariants.{StaleRun}
 use Rattle.piece_rules.specs.declared.PieceAnswer.TheVariants.{Refused, StaleRun as Stale, Halted, Ended}
 use Rattle.piece_rules.specs.declared.RunRecord.{RunRecord}
-use Rattle.piece_rules.specs.Pieces.{PieceLeft, lengths_of, later_refusal, kept_with, first_piece, later_piece}
+use Rattle.piece_rules.specs.Pieces.{Later, Taken, PieceLeft, lengths_of, later_refusal, kept_with, first_piece, later_piece}
 use Rattle.piece_rules.specs.InPieces.{in_pieces}
 
 abbrev f64 : ℕ → Float
@@ -104,14 +103,14 @@ abbrev ready : List Float
 ready = whole 1 ∷ +0 ∷ 10^12 ∷ 10^12 ∷ +0 ∷ +0 ∷ held 1
 
 -- what turns away a later piece of the problem, with this record and buffers of the lengths that it has
-abbrev again : Problem → RunRecord → LaterRefusal
+abbrev again : Problem → RunRecord → Later
 again p r = later_refusal r p r.lengths.work r.lengths.cone_work r.lengths.log
 
 -- .. of seven steps with no row due, after k steps, q rotations and so many rows; and of the semidefinite block after one step
-abbrev after : ℕ → ℕ → ℕ → ℕ → LaterRefusal
+abbrev after : ℕ → ℕ → ℕ → ℕ → Later
 after k q written dropped = again (empty (unscaled 7)) (record_at (empty (unscaled 7)) 6 0 9 +0 k q written dropped false)
 
-abbrev rotated : ℕ → LaterRefusal
+abbrev rotated : ℕ → Later
 rotated q = again semidefinite (record_at semidefinite 36 16 0 (whole 1) 1 q 0 0 false)
 
 abbrev answered : Ending → ℕ → ℕ → ℕ → Logged
@@ -135,21 +134,21 @@ table =
     ∷ (one_step.answer comes-to Halted (record_at one_column 12 0 0 (whole 2) 1 0 0 0 false))
     -- stale by another length of a buffer; by an eps_acc of NaN, a max_iter of 0 for 1 or another period, but not by an eps_zero of −0 for +0
     ∷ (again by_default started comes-to Taken)
-    ∷ (later_refusal started by_default 7 0 1 comes-to StaleRun)
-    ∷ (again by_default (with_par (param_of 1_000_000 nan (f64 0x3eb0_c6f7_a0b5_ed8d) (f64 0x3d71_9799_812d_ea11) 64) started) comes-to StaleRun)
-    ∷ (again (empty (patterns 1)) (record_at (empty (patterns 0)) 7 0 0 (whole 1) 0 0 0 0 false) comes-to StaleRun)
-    ∷ (again (with_period 1 by_default) started comes-to StaleRun)
+    ∷ (later_refusal started by_default 7 0 1 comes-to Err StaleRun)
+    ∷ (again by_default (with_par (param_of 1_000_000 nan (f64 0x3eb0_c6f7_a0b5_ed8d) (f64 0x3d71_9799_812d_ea11) 64) started) comes-to Err StaleRun)
+    ∷ (again (empty (patterns 1)) (record_at (empty (patterns 0)) 7 0 0 (whole 1) 0 0 0 0 false) comes-to Err StaleRun)
+    ∷ (again (with_period 1 by_default) started comes-to Err StaleRun)
     ∷ (again (empty (unscaled 7)) (record_at (empty (with_eps_zero (patterns 7) −0)) 6 0 0 (whole 1) 0 0 0 0 false) comes-to Taken)
     ∷ (again (empty (with_eps_zero (patterns 7) −0)) (record_at (empty (unscaled 7)) 6 0 0 (whole 1) 0 0 0 0 false) comes-to Taken)
     -- by k at the allowance; by q above k × sweep limit × d(d−1), which is 128; by rows written and dropped above k, the last two together 2^64
     ∷ (after 6 0 0 0 comes-to Taken)
-    ∷ (after 7 0 0 0 comes-to StaleRun)
-    ∷ (after 6 1 0 0 comes-to StaleRun)
+    ∷ (after 7 0 0 0 comes-to Err StaleRun)
+    ∷ (after 6 1 0 0 comes-to Err StaleRun)
     ∷ (rotated 128 comes-to Taken)
-    ∷ (rotated 129 comes-to StaleRun)
+    ∷ (rotated 129 comes-to Err StaleRun)
     ∷ (after 3 0 2 1 comes-to Taken)
-    ∷ (after 3 0 2 2 comes-to StaleRun)
-    ∷ (after 3 0 0xffff_ffff_ffff_ffff 1 comes-to StaleRun)
+    ∷ (after 3 0 2 2 comes-to Err StaleRun)
+    ∷ (after 3 0 0xffff_ffff_ffff_ffff 1 comes-to Err StaleRun)
     -- a run of seven steps with rows at 1, 4 and 7 in nine places, cut into 2, 0, 3 and 9: after three pieces, and at its end, as uncut
     ∷ ((in_pieces recorded 2 (0 ∷ 3 ∷ []) (held 6) [] (held 9)).answer comes-to Halted (record_at recorded 6 0 9 +0 5 0 2 0 false))
     ∷ ((in_pieces recorded 2 (0 ∷ 3 ∷ 9 ∷ []) (held 6) [] (held 9)).answer comes-to Ended (answered (ExcessIterUnscaled (inf false) (inf false)) 7 2 1) (record_at recorded 6 0 9 +0 7 0 2 1 true))

@@ -30,10 +30,9 @@ pub struct RunRecord {
     pub ended: bool,
 }
 
-// What the seven tests say of a later piece of a run.
+// Why a later piece of a run is turned away: by one of the six tests of a run, or since its record is stale.
 #[derive(Clone, Copy)]
 pub enum LaterRefusal {
-    Accepted,
     Refused(Ending),
     StaleRun,
 }

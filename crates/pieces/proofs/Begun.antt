@@ -2,9 +2,11 @@
 use Prim.Native.Nat.{ℕ, ◌+◌, ◌-◌, ◌≤◌}
 use native.Mathlib.Omega.{arith}
 use mathlib.Core.Path.{◌≡◌, refl, sym, ◌∙◌}
-use mathlib.Core.Bool.{Bool}
+use mathlib.Core.Bool.{Bool, true}
 use mathlib.Core.List.{List}
 use lib.Ieee.{Float}
+use Rattle.std.specs.Prelude.{Option, Some}
+use Rattle.std.specs.Option.{is_some}
 use lib.ListN.{length, take, drop, set, length-set}
 use lib.Seq.{take_all}
 use Rattle.rules.specs.declared.Norms.{Norms}
@@ -14,20 +16,18 @@ use Rattle.rules.specs.Blocks.{blocks_of}
 use Rattle.rules.specs.Limits.{most_steps}
 use Rattle.rules.specs.Product.{cone_work}
 use Rattle.rules.specs.Problem.{Problem, Slices, problem_in, blocks, length_x, length_y}
-use Rattle.rules.specs.Step.{State, part}
+use Rattle.rules.specs.Step.{State}
 use Rattle.rules.specs.Prepare.{prepared_norms, prepared, zeros}
 use Rattle.rules.specs.Run.{piece_from}
 use Rattle.rules.specs.Progress.{Log, log_from}
 use Rattle.rules.proofs.Parts.{part_length}
 use Rattle.step.specs.Update.{state_of, StepReady}
-use Rattle.prepare.specs.declared.Prepared.{Prepared}
-use Rattle.prepare.specs.declared.Prepared.TheVariants.{Done, No}
 use Rattle.prepare.specs.Prepare.{prepare_fits, PreparedOutcome}
 use Rattle.prepare.proofs.Outcomes.{PreparedBy, prepared_where_fits}
 use Rattle.take_up.specs.TakeUp.{TakenUp, TakeUpOutcome}
 use Rattle.take_up.proofs.Taken.{taken_up_if_fitting}
 use Rattle.solver.specs.Solve.{Lent as RunLent, AtZero}
-use Rattle.solver.proofs.Whole.{covers, cleared_long, zero_x, zero_y, zero_tau, zero_sigma, zero_rx, zero_tx, prepared_is, ready_to_step, done_once, none_done}
+use Rattle.solver.proofs.Whole.{covers, cleared_long, zero_x, zero_y, zero_tau, zero_sigma, zero_rx, zero_tx, prepared_is, ready_to_step}
 use Rattle.piece_rules.specs.declared.PieceAnswer.{PieceAnswer}
 use Rattle.piece_rules.specs.declared.RunLengths.{RunLengths}
 use Rattle.piece_rules.specs.declared.RunRecord.{RunRecord}
@@ -52,30 +52,33 @@ piece_by e l = rw e l
 
 -- ---- the first piece
 
-module _ {shape : Shape} {c : List Float} {a : Slices} {b : List Float} {words : List ℕ} {par : SolverParam} {x y tau sigma rx tx : List Float} {prepared_as : Prepared} {x₁ y₁ tau₁ sigma₁ work cone cone₁ : List Float} (lent : RunLent shape c a b words par work cone) (z : AtZero shape x y tau sigma rx tx) (cleared : cone₁ ≡ zeros (length cone)) (prepares : PreparedOutcome (prepare_fits shape c a b words x y tau sigma) (problem_in shape c a b words par) x y tau sigma prepared_as x₁ y₁ tau₁ sigma₁) where
+once : {v w : Norms} → Some v ≡ Some w → v ≡ w
+once e = cc
+
+module _ {shape : Shape} {c : List Float} {a : Slices} {b : List Float} {words : List ℕ} {par : SolverParam} {x y tau sigma rx tx : List Float} {prepared_as : Option Norms} {x₁ y₁ tau₁ sigma₁ work cone : List Float} (lent : RunLent shape c a b words par work cone) (z : AtZero shape x y tau sigma rx tx) (prepares : PreparedOutcome (prepare_fits shape c a b words x y tau sigma) (problem_in shape c a b words par) x y tau sigma prepared_as x₁ y₁ tau₁ sigma₁) where
   by : PreparedBy (problem_in shape c a b words par) x y tau prepared_as x₁ y₁ tau₁ sigma₁
   by =
       let r = lent.ready in
       prepared_where_fits prepares r.operators (covers r) (zero_x z) (zero_y z) (zero_tau z) (zero_sigma z)
 
-  -- it is prepared
-  pub never_unprepared : prepared_as ≡ No → ⊥
-  never_unprepared is = none_done (sym is ∙ by.answer_is)
+  pub first_prepares : is_some prepared_as ≡ true
+  first_prepares = rw by.answer_is
 
-  pub first_ready : StepReady par shape c a b words (state_of x₁ y₁ tau₁ sigma₁ rx tx cone₁)
-  first_ready = ready_to_step a z by lent cleared
+  module _ {cone₁ : List Float} (cleared : cone₁ ≡ zeros (length cone)) where
+    pub first_ready : StepReady par shape c a b words (state_of x₁ y₁ tau₁ sigma₁ rx tx cone₁)
+    first_ready = ready_to_step a z by lent cleared
 
-  pub first_lent : Lent (problem_in shape c a b words par) work cone₁
-  first_lent = record { steps = lent.steps; work_long = lent.work_long; cone_long = cleared_long lent cleared }
+    pub first_lent : Lent (problem_in shape c a b words par) work cone₁
+    first_lent = record { steps = lent.steps; work_long = lent.work_long; cone_long = cleared_long lent cleared }
 
-  pub first_left : {ns : Norms} → prepared_as ≡ Done ns → (given : ℕ) (lengths : RunLengths) (log : List Float) {answer : PieceAnswer} {work' cone' log' : List Float} → PieceAs (steps_taken given lengths (problem_in shape c a b words par) ns 0 0 (state_of x₁ y₁ tau₁ sigma₁ rx tx cone₁) (log_of (record { written = 0; dropped = 0 }) log) work cone₁) answer work' cone' log' → PieceAs (first_taken given lengths (problem_in shape c a b words par) work cone log) answer work' cone' log'
-  first_left {ns} is given lengths log l =
-      let p = problem_in shape c a b words par in
-      let from : state_of x₁ y₁ tau₁ sigma₁ rx tx cone₁ ≡ prepared p = prepared_is a z by cone₁ (cleared ∙ rw lent.cone_long) in
-      let start : ns ≡ prepared_norms p = done_once (sym is ∙ by.answer_is) ∙ rw z.x_zero in
-      let long = cleared_long lent cleared in
-      let rest : drop (cone_work (blocks p)) cone ≡ drop (cone_work (blocks p)) cone₁ = drop_all (cone_work (blocks p)) cone (omega (arith, lent.cone_long)) ∙ sym (drop_all (cone_work (blocks p)) cone₁ (omega (arith, long))) in
-      piece_by (steps_by_rest given lengths p (prepared_norms p) 0 0 (prepared p) (log_of (record { written = 0; dropped = 0 }) log) work cone cone₁ rest) (rw (from, start) at l)
+    pub first_left : {ns : Norms} → prepared_as ≡ Some ns → (given : ℕ) (lengths : RunLengths) (log : List Float) {answer : PieceAnswer} {work' cone' log' : List Float} → PieceAs (steps_taken given lengths (problem_in shape c a b words par) ns 0 0 (state_of x₁ y₁ tau₁ sigma₁ rx tx cone₁) (log_of (record { written = 0; dropped = 0 }) log) work cone₁) answer work' cone' log' → PieceAs (first_taken given lengths (problem_in shape c a b words par) work cone log) answer work' cone' log'
+    first_left {ns} is given lengths log l =
+        let p = problem_in shape c a b words par in
+        let from : state_of x₁ y₁ tau₁ sigma₁ rx tx cone₁ ≡ prepared p = prepared_is a z by cone₁ (cleared ∙ rw lent.cone_long) in
+        let start : ns ≡ prepared_norms p = once (sym is ∙ by.answer_is) ∙ rw z.x_zero in
+        let long = cleared_long lent cleared in
+        let rest : drop (cone_work (blocks p)) cone ≡ drop (cone_work (blocks p)) cone₁ = drop_all (cone_work (blocks p)) cone (omega (arith, lent.cone_long)) ∙ sym (drop_all (cone_work (blocks p)) cone₁ (omega (arith, long))) in
+        piece_by (steps_by_rest given lengths p (prepared_norms p) 0 0 (prepared p) (log_of (record { written = 0; dropped = 0 }) log) work cone cone₁ rest) (rw (from, start) at l)
 
 pub none_behind : Behind 0 0 (record { written = 0; dropped = 0 })
 none_behind = record { steps = omega arith; few_rotations = omega arith; few_rows = omega arith }

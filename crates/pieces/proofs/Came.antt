@@ -1,22 +1,19 @@
 -- What the steps of a piece come to, none or more, and what is told of it.
 use Prim.Native.Nat.{ℕ, zero, suc, ◌+◌, ◌-◌, ◌≤◌, max}
 use native.Mathlib.Omega.{arith}
-use mathlib.Core.Path.{◌≡◌, refl, ◌∙◌}
-use mathlib.Core.Bool.{false}
+use mathlib.Core.Path.{◌≡◌, refl, sym, ◌∙◌}
+use mathlib.Core.Bool.{true, false}
 use mathlib.Core.List.{List}
 use lib.Ieee.{Float}
-use Rattle.rules.specs.declared.Ending.{Ending}
-use Rattle.rules.specs.declared.Ending.TheVariants.{ExcessIterUnscaled}
+use Rattle.std.specs.Prelude.{Option, Some}
+use Rattle.std.specs.Option.{is_some}
 use Rattle.rules.specs.declared.Norms.{Norms}
 use Rattle.rules.specs.declared.Shape.{Shape}
 use Rattle.rules.specs.declared.SolverParam.{SolverParam}
-use Rattle.rules.specs.declared.Verdict.{Verdict}
-use Rattle.rules.specs.declared.Verdict.TheVariants.{GoesOn, Ends}
-use Rattle.rules.specs.Arithmetic.{+0}
 use Rattle.rules.specs.Problem.{Problem, Slices, problem_in}
 use Rattle.rules.specs.Step.{State}
 use Rattle.rules.specs.Product.{none}
-use Rattle.rules.specs.Run.{Piece, whole_step, state_from, is_cone_failure}
+use Rattle.rules.specs.Run.{Verdict, GoesOn, Ends, Piece, whole_step, state_from, is_cone_failure}
 use Rattle.rules.specs.Progress.{untouched}
 use Rattle.rules.specs.Demands.{step_from, verdict_from}
 use Rattle.rules.proofs.Run.{step_from_lem, state_from_lem, piece_none, goes_by_the_rules, goes_on_exactly}
@@ -25,16 +22,13 @@ use Rattle.step.specs.Update.{step_fits, StepReady}
 use Rattle.step.proofs.Ready.{step_fits_lem}
 use Rattle.whole_step.specs.WholeStep.{left_by_step}
 use Rattle.iterate.specs.declared.Iterated.{Iterated}
-use Rattle.iterate.specs.declared.Iterated.TheVariants.{Made, No}
-use Rattle.iterate.specs.declared.RowCounts.{RowCounts}
-use Rattle.iterate.specs.Iterate.{piece_of, before_last, IterateOutcome}
+use Rattle.iterate.specs.Iterate.{piece_of, before_last, iterated, IterateOutcome}
 use Rattle.iterate.proofs.Outcomes.{ran_where_fits}
-use Rattle.piece_rules.specs.declared.RunLengths.{RunLengths}
-use Rattle.pieces.specs.Taking.{laid_by, SomeSteps, told_by}
+use Rattle.pieces.specs.Taking.{laid_by, SomeSteps}
 
 -- ---- no step
 
-pub none_taken : (p : Problem) (ns : Norms) (behind : ℕ) (s : State) (log : List Float) → SomeSteps 0 p ns behind s log (Made GoesOn behind 0 (record { written = 0; dropped = 0 })) s log
+pub none_taken : (p : Problem) (ns : Norms) (behind : ℕ) (s : State) (log : List Float) → SomeSteps 0 p ns behind s log (iterated GoesOn behind 0 (record { written = 0; dropped = 0 })) s log
 none_taken p ns behind s log =
     let still : behind - behind ≡ 0 = omega arith in
     let halted = piece_none p ns behind 0 s in
@@ -66,51 +60,27 @@ module _ (p : Problem) (ns : Norms) (behind : ℕ) (s : State) where
       let some : 1 ≤ r.made = rw h.0 (omega arith) in
       halted_after r.made (piece_of p ns behind given s) some r.steps_are r.state_there (h.1 r.made some (omega arith))
 
-module _ {par : SolverParam} {shape : Shape} {c : List Float} {a : Slices} {b : List Float} {words : List ℕ} {ns : Norms} {behind given : ℕ} {s : State} {log : List Float} {answer : Iterated} {s' : State} {log' : List Float} where
+once : {one other : Iterated} → Some one ≡ Some other → one ≡ other
+once e = cc
+
+module _ {par : SolverParam} {shape : Shape} {c : List Float} {a : Slices} {b : List Float} {words : List ℕ} {ns : Norms} {behind given : ℕ} {s : State} {log : List Float} {answer : Option Iterated} {s' : State} {log' : List Float} where
   state_left : IterateOutcome (step_fits par shape c a b words s) (problem_in shape c a b words par) ns behind given s log answer s' log' → StepReady par shape c a b words s → (said : Verdict) → (piece_of (problem_in shape c a b words par) ns behind given s).said ≡ said → is_cone_failure (laid_by said) ≡ false → s' ≡ (piece_of (problem_in shape c a b words par) ns behind given s).state
   state_left o r GoesOn is h =
       let e = step_fits_lem r in
       (rw e at o.left) ∙ halted_left (problem_in shape c a b words par) ns behind s given is
   state_left o r (Ends e) is h = (ran_where_fits o r).state_is (rw is h)
 
-  pub some_taken : IterateOutcome (step_fits par shape c a b words s) (problem_in shape c a b words par) ns behind given s log answer s' log' → StepReady par shape c a b words s → 1 ≤ given → SomeSteps given (problem_in shape c a b words par) ns behind s log answer s' log'
-  some_taken o r some =
+  -- they are taken, and that is what they come to
+  pub some_steps : IterateOutcome (step_fits par shape c a b words s) (problem_in shape c a b words par) ns behind given s log answer s' log' → StepReady par shape c a b words s → is_some answer ≡ true
+  some_steps o r = rw (ran_where_fits o r).answer_is
+
+  pub some_taken : IterateOutcome (step_fits par shape c a b words s) (problem_in shape c a b words par) ns behind given s log answer s' log' → StepReady par shape c a b words s → 1 ≤ given → {ran : Iterated} → answer ≡ Some ran → SomeSteps given (problem_in shape c a b words par) ns behind s log ran s' log'
+  some_taken o r some {ran} is =
       let i = ran_where_fits o r in
       let all : max given 1 ≡ given = omega arith in
+      let same = once (sym is ∙ i.answer_is) in
       record {
-        answered = rw all at i.answer_is;
+        answered = rw all at same;
         left = rw all at (state_left o r (piece_of (problem_in shape c a b words par) ns behind given s).said refl);
         log_left = rw all at i.log_is;
       }
-
--- ---- what is told
-
-pub laid_ends : {v w : Verdict} {k q l r : ℕ} {rows rows' : RowCounts} {e : Ending} → Made v k q rows ≡ Made w l r rows' → v ≡ Ends e → e ≡ laid_by w
-laid_ends {v} {w} {e = e} h is =
-    let said_is : w ≡ Ends e = cc in
-    rw said_is
-
-pub laid_halts : {v w : Verdict} {k q l r : ℕ} {rows rows' : RowCounts} → Made v k q rows ≡ Made w l r rows' → v ≡ GoesOn → ExcessIterUnscaled +0 +0 ≡ laid_by w
-laid_halts {v} {w} h is =
-    let said_is : w ≡ GoesOn = cc in
-    rw said_is
-
-pub none_made : {v : Verdict} {k q : ℕ} {rows : RowCounts} → No ≡ Made v k q rows → ⊥
-none_made e = let z : ◌≡◌ {A = ℕ} 0 1 = cc in omega arith
-
-module _ {lengths : RunLengths} {par : SolverParam} {ns : Norms} {tau : Float} (q : ℕ) (rows : RowCounts) where
-  pub told_ends : {v w : Verdict} {k made l r : ℕ} {new new' : RowCounts} {e : Ending} → Made v k made new ≡ Made w l r new' → v ≡ Ends e → told_by lengths par ns tau q rows (Ends e) k made new ≡ told_by lengths par ns tau q rows w l r new'
-  told_ends {v} {w} {k} {made} {l} {r} {new} {new'} {e} h is =
-      let said_is : w ≡ Ends e = cc in
-      let steps_are : k ≡ l = cc in
-      let rotations_are : made ≡ r = cc in
-      let rows_are : new ≡ new' = cc in
-      rw (said_is, steps_are, rotations_are, rows_are)
-
-  pub told_halts : {v w : Verdict} {k made l r : ℕ} {new new' : RowCounts} → Made v k made new ≡ Made w l r new' → v ≡ GoesOn → told_by lengths par ns tau q rows GoesOn k made new ≡ told_by lengths par ns tau q rows w l r new'
-  told_halts {v} {w} {k} {made} {l} {r} {new} {new'} h is =
-      let said_is : w ≡ GoesOn = cc in
-      let steps_are : k ≡ l = cc in
-      let rotations_are : made ≡ r = cc in
-      let rows_are : new ≡ new' = cc in
-      rw (said_is, steps_are, rotations_are, rows_are)

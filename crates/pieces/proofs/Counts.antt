@@ -2,7 +2,7 @@
 use Prim.Native.Nat.{ℕ, zero, suc, ◌+◌, ◌-◌, ◌*◌, ◌^◌, ◌≤◌, ◌<◌}
 use native.Mathlib.Nat.{mul-add, mul-le-mul}
 use native.Mathlib.Omega.{arith}
-use mathlib.Core.Path.{◌≡◌, sym, ◌∙◌}
+use mathlib.Core.Path.{◌≡◌}
 use mathlib.Core.Bool.{true}
 use mathlib.Core.List.{List, [], ◌∷◌}
 use lib.Ieee.{Float}
@@ -12,10 +12,9 @@ use Rattle.rules.specs.declared.Cone.{Cone}
 use Rattle.rules.specs.declared.Cone.TheVariants.{Zero, RPos, SOC, RotSOC, PSD}
 use Rattle.rules.specs.declared.Norms.{Norms}
 use Rattle.rules.specs.declared.SolverParam.{SolverParam}
-use Rattle.rules.specs.declared.Verdict.{Verdict}
 use Rattle.rules.specs.Limits.{most_sweeps}
 use Rattle.rules.specs.Blocks.{places, total_places, blocks_of}
-use Rattle.rules.specs.Problem.{Problem, blocks}
+use Rattle.rules.specs.Problem.{Problem}
 use Rattle.rules.specs.Jacobi.{sweeps_fit}
 use Rattle.rules.specs.Step.{State}
 use Rattle.rules.specs.Run.{piece_from}
@@ -26,7 +25,6 @@ use Rattle.rules.proofs.Run.{goes_by_the_rules}
 use Rattle.rules.proofs.Rotations.{steps_bounded}
 use Rattle.rules.proofs.Progress.{few_rows}
 use Rattle.iterate.specs.declared.Iterated.{Iterated}
-use Rattle.iterate.specs.declared.Iterated.TheVariants.{Made}
 use Rattle.iterate.specs.declared.RowCounts.{RowCounts}
 use Rattle.iterate.specs.Iterate.{counts_of}
 use Rattle.project.specs.Project.{ConesReady}
@@ -51,12 +49,6 @@ unfolding all_pairs_twice total_places
 all_few_pairs [] = omega arith
 all_few_pairs (b ∷ bs) = omega (arith, few_pairs b, all_few_pairs bs)
 
-rotations_of : {v w : Verdict} {k q l r : ℕ} {rows rows' : RowCounts} → Made v k q rows ≡ Made w l r rows' → q ≡ r
-rotations_of e = cc
-
-rows_of : {v w : Verdict} {k q l r : ℕ} {rows rows' : RowCounts} → Made v k q rows ≡ Made w l r rows' → rows ≡ rows'
-rows_of e = cc
-
 sweeps_within : (par : SolverParam) → sweeps_fit par ≡ true → par.sweep_limit ≤ most_sweeps
 sweeps_within par h = leb-true _ _ (both_true (leb 1 par.sweep_limit) _ h).1
 
@@ -69,12 +61,12 @@ few_rotations {par} words ready k =
 
 -- ---- what is added to the counts behind
 
-pub counted : {given : ℕ} {p : Problem} {ns : Norms} {k q : ℕ} {rows : RowCounts} {s : State} {log : List Float} {ran : Iterated} {s' : State} {log' : List Float} {cone : ℕ} → given < 2 ^ 32 → Behind k q rows → ConesReady p.par p.m p.words cone → SomeSteps given p ns k s log ran s' log' → (said : Verdict) (l made : ℕ) (new : RowCounts) → ran ≡ Made said l made new → Counted q rows made new
-counted {given} {p} {ns} {k} {q} {rows} {s} {log} few behind ready steps said l made new is =
+pub counted : {given : ℕ} {p : Problem} {ns : Norms} {k q : ℕ} {rows : RowCounts} {s : State} {log : List Float} {ran : Iterated} {s' : State} {log' : List Float} {cone : ℕ} → given < 2 ^ 32 → Behind k q rows → ConesReady p.par p.m p.words cone → SomeSteps given p ns k s log ran s' log' → Counted q rows ran.rotations ran.rows
+counted {given} {p} {ns} {k} {q} {rows} {s} {log} {ran} few behind ready steps =
     let c = piece_from given p ns k 0 s in
     let r = goes_by_the_rules given p ns k 0 s in
-    let made_is : made ≡ c.rotations = rotations_of (sym is ∙ steps.answered) in
-    let new_is : new ≡ counts_of (log_from p ns k s (untouched log) (c.steps - k)) = rows_of (sym is ∙ steps.answered) in
+    let made_is : ran.rotations ≡ c.rotations = rw steps.answered in
+    let new_is : ran.rows ≡ counts_of (log_from p ns k s (untouched log) (c.steps - k)) = rw steps.answered in
     let bound : rotations_from p ns s r.made ≤ r.made * 131072 = omega (arith, steps_bounded p ns s r.made, few_rotations p.words ready r.made) in
     let rows_are = few_rows p ns k s (untouched log) (c.steps - k) in
     let few_steps : c.steps - k ≤ given = omega (arith, r.steps_are, r.at_most) in

@@ -5,31 +5,27 @@ use mathlib.Core.Path.{◌≡◌, refl, sym, ◌∙◌}
 use mathlib.Core.Bool.{false}
 use mathlib.Core.List.{List, [], ◌++◌, append-nil}
 use lib.Ieee.{Float}
+use Rattle.std.specs.Prelude.{Err}
 use lib.ListN.{length}
 use Rattle.rules.specs.declared.Ending.{Ending}
 use Rattle.rules.specs.declared.Storage.{Storage}
 use Rattle.rules.specs.declared.Storage.TheVariants.{Dense}
 use Rattle.rules.specs.declared.SolverParam.{SolverParam}
-use Rattle.rules.specs.declared.Refusal.{Refusal}
-use Rattle.rules.specs.declared.Refusal.TheVariants.{Accepted, Refused as TurnedAway}
 use Rattle.rules.specs.Groups.{plain_words}
 use Rattle.rules.specs.Problem.{Problem, slices, as_read, problem_of, problem_in}
-use Rattle.rules.specs.Refusals.{refusal, read_problem}
+use Rattle.rules.specs.Refusals.{Refusal, Accepted, Refused as TurnedAway, refusal, read_problem}
 use Rattle.rules.specs.Split.{SplitProblem, split_of, joined_problem, split_refusal}
 use Rattle.solver.specs.Solve.{Handed}
 use Rattle.solver.proofs.Outcomes.{whole_shape, handed, split_shape, split_handed}
-use Rattle.piece_rules.specs.declared.LaterRefusal.{LaterRefusal}
-use Rattle.piece_rules.specs.declared.LaterRefusal.TheVariants.{Accepted as Taken, Refused as ByTest, StaleRun}
+use Rattle.piece_rules.specs.declared.LaterRefusal.TheVariants.{Refused as ByTest, StaleRun}
 use Rattle.piece_rules.specs.declared.PieceAnswer.{PieceAnswer}
 use Rattle.piece_rules.specs.declared.PieceAnswer.TheVariants.{Refused, StaleRun as Stale}
 use Rattle.piece_rules.specs.declared.RunRecord.{RunRecord}
-use Rattle.piece_rules.specs.Pieces.{PieceAs, lengths_with, first_after, later_after, first_taken, later_taken, kept_with, later_refusal, later_split_refusal, first_piece, later_piece, first_split_piece, later_split_piece, stale_run}
+use Rattle.piece_rules.specs.Pieces.{Later as LaterTests, Taken, PieceAs, lengths_with, first_after, later_after, first_taken, later_taken, kept_with, later_refusal, later_split_refusal, first_piece, later_piece, first_split_piece, later_split_piece, stale_run}
 use Rattle.piece_rules.proofs.Kept.{later_is, split_later_is}
 use Rattle.piece_rules.proofs.LaterPieces.{passes}
 use Rattle.piece_rules.proofs.Stale.{up_to_date}
-use Rattle.pieces.specs.declared.taking.Start.{Start}
-use Rattle.pieces.specs.declared.taking.Start.TheVariants.{First, Later}
-use Rattle.pieces.specs.Starts.{Begins, taken_by, lengths_lent}
+use Rattle.pieces.specs.Starts.{Start, First, Later, Begins, taken_by, lengths_lent}
 use Rattle.pieces.specs.Taking.{Fresh}
 use Rattle.pieces.proofs.Begun.{piece_by}
 
@@ -75,7 +71,7 @@ module _ (p : Problem) (given : ℕ) (work cone log : List Float) where
   first_accepted : (found : Refusal) → found ≡ refusal p (length work) (length cone) → found ≡ Accepted → first_piece p given work cone log ≡ first_taken given (lengths_with p work cone log) (read_problem p) work cone log
   first_accepted found h is = first_is ∙ rw (← h, is)
 
-  later_accepted : (r : RunRecord) (found : LaterRefusal) → found ≡ later_refusal r p (length work) (length cone) (length log) → found ≡ Taken → later_piece p given work cone log r ≡ later_taken given r (lengths_with p work cone log) (read_problem p) work cone log
+  later_accepted : (r : RunRecord) (found : LaterTests) → found ≡ later_refusal r p (length work) (length cone) (length log) → found ≡ Taken → later_piece p given work cone log r ≡ later_taken given r (lengths_with p work cone log) (read_problem p) work cone log
   later_accepted r found h is = later_piece_is r ∙ rw (← h, is)
 
 module _ (p : SplitProblem) (given : ℕ) (work cone log : List Float) where
@@ -90,7 +86,7 @@ module _ (p : SplitProblem) (given : ℕ) (work cone log : List Float) where
   first_split_accepted : (found : Refusal) → found ≡ split_refusal p (length work) (length cone) → found ≡ Accepted → first_split_piece p given work cone log ≡ first_taken given (lengths_with (joined_problem p) work cone log) (read_problem (joined_problem p)) work cone log
   first_split_accepted found h is = first_split_is ∙ rw (← h, is)
 
-  later_split_accepted : (r : RunRecord) (found : LaterRefusal) → found ≡ later_split_refusal r p (length work) (length cone) (length log) → found ≡ Taken → later_split_piece p given work cone log r ≡ later_taken given r (lengths_with (joined_problem p) work cone log) (read_problem (joined_problem p)) work cone log
+  later_split_accepted : (r : RunRecord) (found : LaterTests) → found ≡ later_split_refusal r p (length work) (length cone) (length log) → found ≡ Taken → later_split_piece p given work cone log r ≡ later_taken given r (lengths_with (joined_problem p) work cone log) (read_problem (joined_problem p)) work cone log
   later_split_accepted r found h is = later_split_is r ∙ rw (← h, is)
 
 -- ---- turned away
@@ -99,20 +95,20 @@ module _ (p : Problem) (given : ℕ) (work cone log : List Float) where
   pub first_turned_away : (e : Ending) (found : Refusal) → found ≡ refusal p (length work) (length cone) → found ≡ TurnedAway e → PieceAs (first_piece p given work cone log) (Refused e) work cone log
   first_turned_away e found h is = piece_by (first_is p given work cone log ∙ rw (← h, is)) all_kept
 
-  pub later_turned_away : (r : RunRecord) (e : Ending) (found : LaterRefusal) → found ≡ later_refusal r p (length work) (length cone) (length log) → found ≡ ByTest e → PieceAs (later_piece p given work cone log r) (Refused e) work cone log
+  pub later_turned_away : (r : RunRecord) (e : Ending) (found : LaterTests) → found ≡ later_refusal r p (length work) (length cone) (length log) → found ≡ Err (ByTest e) → PieceAs (later_piece p given work cone log r) (Refused e) work cone log
   later_turned_away r e found h is = piece_by (later_piece_is p given work cone log r ∙ rw (← h, is)) all_kept
 
-  pub later_stale : (r : RunRecord) (found : LaterRefusal) → found ≡ later_refusal r p (length work) (length cone) (length log) → found ≡ StaleRun → PieceAs (later_piece p given work cone log r) Stale work cone log
+  pub later_stale : (r : RunRecord) (found : LaterTests) → found ≡ later_refusal r p (length work) (length cone) (length log) → found ≡ Err StaleRun → PieceAs (later_piece p given work cone log r) Stale work cone log
   later_stale r found h is = piece_by (later_piece_is p given work cone log r ∙ rw (← h, is)) all_kept
 
 module _ (p : SplitProblem) (given : ℕ) (work cone log : List Float) where
   pub first_split_turned_away : (e : Ending) (found : Refusal) → found ≡ split_refusal p (length work) (length cone) → found ≡ TurnedAway e → PieceAs (first_split_piece p given work cone log) (Refused e) work cone log
   first_split_turned_away e found h is = piece_by (first_split_is p given work cone log ∙ rw (← h, is)) all_kept
 
-  pub later_split_turned_away : (r : RunRecord) (e : Ending) (found : LaterRefusal) → found ≡ later_split_refusal r p (length work) (length cone) (length log) → found ≡ ByTest e → PieceAs (later_split_piece p given work cone log r) (Refused e) work cone log
+  pub later_split_turned_away : (r : RunRecord) (e : Ending) (found : LaterTests) → found ≡ later_split_refusal r p (length work) (length cone) (length log) → found ≡ Err (ByTest e) → PieceAs (later_split_piece p given work cone log r) (Refused e) work cone log
   later_split_turned_away r e found h is = piece_by (later_split_is p given work cone log r ∙ rw (← h, is)) all_kept
 
-  pub later_split_stale : (r : RunRecord) (found : LaterRefusal) → found ≡ later_split_refusal r p (length work) (length cone) (length log) → found ≡ StaleRun → PieceAs (later_split_piece p given work cone log r) Stale work cone log
+  pub later_split_stale : (r : RunRecord) (found : LaterTests) → found ≡ later_split_refusal r p (length work) (length cone) (length log) → found ≡ Err StaleRun → PieceAs (later_split_piece p given work cone log r) Stale work cone log
   later_split_stale r found h is = piece_by (later_split_is p given work cone log r ∙ rw (← h, is)) all_kept
 
 -- ---- accepted
@@ -130,7 +126,7 @@ module _ (m n : ℕ) (storage : Storage) (c a b : List Float) (words : List ℕ)
   pub first_went : (found : Refusal) → found ≡ refusal p (length work) (length cone) → found ≡ Accepted → (read : SolverParam) → read ≡ as_read par → {answer : PieceAnswer} {work' cone' log' : List Float} → PieceAs (taken_by First given (lengths_lent (whole_shape m n storage c a b words par work cone) words work cone log) (lent read) work cone log) answer work' cone' log' → PieceAs (first_piece p given work cone log) answer work' cone' log'
   first_went found h is read e l = piece_by (first_accepted p given work cone log found h is) (rw (as_lent read e) l)
 
-  module _ (r : RunRecord) (found : LaterRefusal) (h : found ≡ later_refusal r p (length work) (length cone) (length log)) (is : found ≡ Taken) where
+  module _ (r : RunRecord) (found : LaterTests) (h : found ≡ later_refusal r p (length work) (length cone) (length log)) (is : found ≡ Taken) where
     passed : (refusal p (length work) (length cone) ≡ Accepted) × (stale_run r (lengths_with p work cone log) (read_problem p) ≡ false)
     passed = passes _ _ (sym (later_is r p (length work) (length cone) (length log)) ∙ sym h ∙ is)
 
@@ -156,7 +152,7 @@ module _ (m n n1 : ℕ) (c factory lesson b : List Float) (words : List ℕ) (pa
   pub first_split_went : (found : Refusal) → found ≡ split_refusal sp (length work) (length cone) → found ≡ Accepted → (read : SolverParam) → read ≡ as_read par → {answer : PieceAnswer} {work' cone' log' : List Float} → PieceAs (taken_by First given (lengths_lent (split_shape m n n1 c factory lesson b words par work cone) words work cone log) (split_lent read) work cone log) answer work' cone' log' → PieceAs (first_split_piece sp given work cone log) answer work' cone' log'
   first_split_went found h is read e l = piece_by (first_split_accepted sp given work cone log found h is) (rw (split_as_lent read e) l)
 
-  module _ (r : RunRecord) (found : LaterRefusal) (h : found ≡ later_split_refusal r sp (length work) (length cone) (length log)) (is : found ≡ Taken) where
+  module _ (r : RunRecord) (found : LaterTests) (h : found ≡ later_split_refusal r sp (length work) (length cone) (length log)) (is : found ≡ Taken) where
     split_passed : (split_refusal sp (length work) (length cone) ≡ Accepted) × (stale_run r (lengths_with (joined_problem sp) work cone log) (read_problem (joined_problem sp)) ≡ false)
     split_passed = passes _ _ (sym (split_later_is r sp (length work) (length cone) (length log)) ∙ sym h ∙ is)
 

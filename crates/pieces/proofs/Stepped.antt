@@ -9,8 +9,6 @@ use lib.ListN.{length, take, drop, length-drop}
 use lib.Seq.{take_all, drop-length}
 use Rattle.rules.specs.declared.Ending.{Ending}
 use Rattle.rules.specs.declared.Norms.{Norms}
-use Rattle.rules.specs.declared.Verdict.{Verdict}
-use Rattle.rules.specs.declared.Verdict.TheVariants.{GoesOn, Ends}
 use Rattle.rules.specs.Arithmetic.{at}
 use Rattle.rules.specs.Product.{cone_work}
 use Rattle.rules.specs.declared.Shape.{Shape}
@@ -18,13 +16,12 @@ use Rattle.rules.specs.declared.SolverParam.{SolverParam}
 use Rattle.rules.specs.Problem.{Problem, Slices, problem_in, blocks, work_length}
 use Rattle.rules.specs.Step.{State}
 use Rattle.rules.specs.Prepare.{zeros}
-use Rattle.rules.specs.Run.{Piece, piece_from, is_cone_failure, finished_x, laid_out, left_by, ended_by}
+use Rattle.rules.specs.Run.{Verdict, GoesOn, Ends, Piece, piece_from, is_cone_failure, finished_x, laid_out, left_by, ended_by}
 use Rattle.rules.specs.Progress.{Log, untouched, log_from}
 use Rattle.rules.proofs.Columns.{by_less}
 use Rattle.rules.proofs.Parts.{put}
 use Rattle.step.specs.Update.{state_of, StepReady}
 use Rattle.iterate.specs.declared.Iterated.{Iterated}
-use Rattle.iterate.specs.declared.Iterated.TheVariants.{Made}
 use Rattle.iterate.specs.declared.RowCounts.{RowCounts}
 use Rattle.iterate.specs.Iterate.{counts_of}
 use Rattle.settle.specs.Settle.{Settled, SettleOutcome}
@@ -102,13 +99,13 @@ ended_answer : (p : Problem) (c : Piece) (e : Ending) (work cone : List Float) �
 unfolding left_by
 ended_answer p c e work cone is = rw is
 
-module _ {given : ℕ} {p : Problem} {ns : Norms} {k : ℕ} (q : ℕ) {s : State} (rows : RowCounts) (log : List Float) {lengths : RunLengths} {ran : Iterated} {x y dp_tau dp_sigma rx tx cone₁ log₁ : List Float} {ending : Ending} {work : List Float} (cone : List Float) {x' work' cone' : List Float} {answer : PieceAnswer} where
+module _ {given : ℕ} {p : Problem} {ns : Norms} {k : ℕ} (q : ℕ) {s : State} (rows : RowCounts) (log : List Float) (lengths : RunLengths) {ran : Iterated} {x y dp_tau dp_sigma rx tx cone₁ log₁ : List Float} {ending : Ending} {work : List Float} (cone : List Float) {x' work' cone' : List Float} {answer : PieceAnswer} where
   pub piece_left : SomeSteps given p ns k s (drop (4 * rows.written) log) ran (state_of x y dp_tau dp_sigma rx tx cone₁) log₁
-      → ((said : Verdict) (k q : ℕ) (new : RowCounts) → ran ≡ Made said k q new → ending ≡ laid_by said)
+      → ending ≡ laid_by ran.said
       → length cone ≡ cone_work (blocks p)
       → length cone₁ ≡ cone_work (blocks p)
       → Settled p.m p.n x y dp_tau dp_sigma rx tx work ending cone₁ x' work' cone'
-      → ((said : Verdict) (k made : ℕ) (new : RowCounts) → ran ≡ Made said k made new → answer ≡ told_by lengths p.par ns (at work' (p.n + p.m + p.m)) q rows said k made new)
+      → answer ≡ told_by lengths p.par ns (at work' (p.n + p.m + p.m)) q rows ran.said ran.steps ran.rotations ran.rows
       → PieceAs (steps_taken given lengths p ns k q s (log_of rows log) work cone) answer work' cone' (take (4 * rows.written) log ++ log₁)
   piece_left steps laid whole long settled tells = rw (taken_is given p ns k s rows log lengths q work cone) (go c.said refl)
     where
@@ -122,10 +119,10 @@ module _ {given : ℕ} {p : Problem} {ns : Norms} {k : ℕ} (q : ℕ) {s : State
       front = take (4 * rows.written) log
 
       told : answer ≡ told_by lengths p.par ns (at work' (p.n + p.m + p.m)) q rows c.said c.steps c.rotations (counts_of l)
-      told = tells _ _ _ _ steps.answered
+      told = rw steps.answered at tells
 
       by : ending ≡ laid_by c.said
-      by = laid _ _ _ _ steps.answered
+      by = rw steps.answered at laid
 
       nothing_more : drop (cone_work (blocks p)) cone ≡ []
       nothing_more = drop_all (cone_work (blocks p)) cone (omega arith)
@@ -177,14 +174,14 @@ module _ {given : ℕ} {p : Problem} {ns : Norms} {k : ℕ} (q : ℕ) {s : State
 
 -- ---- all of it: the steps, with the record's part after its rows, and then settled
 
-module _ {given : ℕ} {par : SolverParam} {shape : Shape} {c : List Float} {a : Slices} {b : List Float} {words : List ℕ} {ns : Norms} {k : ℕ} (q : ℕ) (rows : RowCounts) {x y tau sigma rx tx : List Float} (cone : List Float) (log : List Float) {lengths : RunLengths} {start : ℕ} {ran : Iterated} {x₁ y₁ rx₁ tx₁ cone₁ log₁ : List Float} {ending : Ending} {work : List Float} {fits : Bool} {x' work' cone' : List Float} {answer : PieceAnswer} where
+module _ {given : ℕ} {par : SolverParam} {shape : Shape} {c : List Float} {a : Slices} {b : List Float} {words : List ℕ} {ns : Norms} {k : ℕ} (q : ℕ) (rows : RowCounts) {x y tau sigma rx tx : List Float} (cone : List Float) (log : List Float) (lengths : RunLengths) {start : ℕ} {ran : Iterated} {x₁ y₁ rx₁ tx₁ cone₁ log₁ : List Float} {ending : Ending} {work : List Float} {fits : Bool} {x' work' cone' : List Float} {answer : PieceAnswer} where
   pub steps_left : StepReady par shape c a b words (state_of x y tau sigma rx tx cone) → Lent (problem_in shape c a b words par) work cone
       → start ≡ min (4 * rows.written) (length log)
       → SomeSteps given (problem_in shape c a b words par) ns k (state_of x y tau sigma rx tx cone) (take (length log - start) (drop start log)) ran (state_of x₁ y₁ tau sigma rx₁ tx₁ cone₁) log₁
-      → ((said : Verdict) (k q : ℕ) (new : RowCounts) → ran ≡ Made said k q new → ending ≡ laid_by said)
+      → ending ≡ laid_by ran.said
       → SettleOutcome shape.rows.0 shape.cols.0 x₁ y₁ tau sigma rx₁ tx₁ work ending cone₁ fits x' work' cone'
       → length x₁ ≡ length x → length y₁ ≡ length y → length rx₁ ≡ length rx → length tx₁ ≡ length tx → length cone₁ ≡ length cone
-      → ((said : Verdict) (k made : ℕ) (new : RowCounts) → ran ≡ Made said k made new → answer ≡ told_by lengths par ns (at work' (shape.cols.0 + shape.rows.0 + shape.rows.0)) q rows said k made new)
+      → answer ≡ told_by lengths par ns (at work' (shape.cols.0 + shape.rows.0 + shape.rows.0)) q rows ran.said ran.steps ran.rotations ran.rows
       → PieceAs (steps_taken given lengths (problem_in shape c a b words par) ns k q (state_of x y tau sigma rx tx cone) (log_of rows log) work cone) answer work' cone' (put start (length log) log log₁)
   steps_left ready lent starts steps laid settles kept_x kept_y kept_rx kept_tx kept_cone tells =
       let after = rw (starts, rest_lent (4 * rows.written) log) at steps in
@@ -201,4 +198,4 @@ module _ {given : ℕ} {par : SolverParam} {shape : Shape} {c : List Float} {a :
         work_long = lent.work_long;
       })
       settles in
-      rw (starts, rest_put (4 * rows.written) log log₁) (piece_left q rows log cone after laid lent.cone_long (kept_cone ∙ lent.cone_long) settled tells)
+      rw (starts, rest_put (4 * rows.written) log log₁) (piece_left q rows log lengths cone after laid lent.cone_long (kept_cone ∙ lent.cone_long) settled tells)

@@ -7,21 +7,16 @@ use lib.Ieee.{Float}
 use lib.ListN.{length, take, drop, take-append-drop}
 use lib.Seq.{length-take-le, take-take}
 use Rattle.rules.specs.declared.Norms.{Norms}
-use Rattle.rules.specs.declared.Verdict.{Verdict}
-use Rattle.rules.specs.declared.Verdict.TheVariants.{GoesOn, Ends}
 use Rattle.rules.specs.Prepare.{prepared, prepared_norms}
 use Rattle.rules.specs.Product.{cone_work}
 use Rattle.rules.specs.Problem.{Problem, blocks}
 use Rattle.rules.specs.Step.{State}
-use Rattle.rules.specs.Run.{Piece, piece_from, left_by}
+use Rattle.rules.specs.Run.{Verdict, GoesOn, Ends, Piece, piece_from, left_by}
 use Rattle.rules.specs.Progress.{Log, untouched, log_from}
-use Rattle.rules.proofs.Parts.{put, from_start}
 use Rattle.piece_rules.specs.declared.PieceAnswer.{PieceAnswer}
 use Rattle.piece_rules.specs.declared.RunLengths.{RunLengths}
 use Rattle.piece_rules.specs.Pieces.{PieceLeft, left_by_piece, PieceAs, steps_taken, from_work, with_tau, log_kept}
-use Rattle.pieces.specs.declared.taking.Start.{Start}
-use Rattle.pieces.specs.declared.taking.Start.TheVariants.{First, Later}
-use Rattle.pieces.specs.Starts.{taken_by}
+use Rattle.pieces.specs.Starts.{Start, First, Later, taken_by}
 use Rattle.pieces.proofs.Stepped.{drop_all}
 
 -- what is left, with so much of cone work after it
@@ -60,9 +55,9 @@ module _ (p : Problem) (cone : List Float) (enough : cone_work (blocks p) ≤ le
   taken-whole (Later r) (suc more) lengths work log =
       rw (same_held work) (steps_whole (suc more) lengths r.norms r.steps r.rotations (with_tau p r.tau (from_work p work cone)) (log_kept r log) work)
 
-pub piece_whole : (start : Start) (given : ℕ) (lengths : RunLengths) (p : Problem) (work cone log : List Float) (needed : ℕ) → needed ≡ cone_work (blocks p) → needed ≤ length cone → {answer : PieceAnswer} {work' cone' log' : List Float} → PieceAs (taken_by start given lengths p work (take (needed - 0) (drop 0 cone)) log) answer work' cone' log' → PieceAs (taken_by start given lengths p work cone log) answer work' (put 0 needed cone cone') log'
+pub piece_whole : (start : Start) (given : ℕ) (lengths : RunLengths) (p : Problem) (work cone log : List Float) (needed : ℕ) → needed ≡ cone_work (blocks p) → needed ≤ length cone → {answer : PieceAnswer} {work' cone' log' : List Float} → PieceAs (taken_by start given lengths p work (take needed cone) log) answer work' cone' log' → PieceAs (taken_by start given lengths p work cone log) answer work' (cone' ++ drop needed cone) log'
 piece_whole start given lengths p work cone log needed e enough {answer} {work'} {cone'} {log'} l =
     let within : cone_work (blocks p) ≤ length cone = omega arith in
-    let part : PieceAs (taken_by start given lengths p work (take (cone_work (blocks p)) cone) log) answer work' cone' log' = rw (from_start needed, e) at l in
-    rw (taken-whole p cone within start given lengths work log, from_start needed, e)
+    let part : PieceAs (taken_by start given lengths p work (take (cone_work (blocks p)) cone) log) answer work' cone' log' = rw e at l in
+    rw (taken-whole p cone within start given lengths work log, e)
     (record { answered = part.answered; work_left = part.work_left; cone_left = rw part.cone_left; log_left = part.log_left })

@@ -1,13 +1,21 @@
 -- A piece that was accepted: the first of a run, or a later one by its record.
-use Rattle.std.specs.Prelude.{ℕ, ◌≡◌, List, Float, length}
+use Rattle.std.specs.Prelude.{ℕ, ◌≡◌, List, Float, length, Option, Some, None}
 use Rattle.rules.specs.declared.Shape.{Shape}
 use Rattle.rules.specs.Problem.{Problem}
 use Rattle.piece_rules.specs.declared.RunLengths.{RunLengths}
 use Rattle.piece_rules.specs.declared.RunRecord.{RunRecord}
 use Rattle.piece_rules.specs.Pieces.{PieceLeft, first_taken, later_taken}
-use Rattle.pieces.specs.declared.taking.Start.{Start}
-use Rattle.pieces.specs.declared.taking.Start.TheVariants.{First, Later}
 use Rattle.pieces.specs.Taking.{Fresh}
+
+-- which piece of a run: the first, or a later one, taken up by its record
+abbrev pub Start : Type 0
+Start = Option RunRecord
+
+pattern abbrev pub First : Start
+First = None
+
+pattern abbrev pub Later : RunRecord → Start
+Later r = Some r
 
 -- what is asked of its record
 pub record Begins (start : Start) (p : Problem) : Type 0 where

@@ -4,19 +4,16 @@ use Rattle.rules.specs.declared.Ending.{Ending}
 use Rattle.rules.specs.declared.Ending.TheVariants.{ExcessIterUnscaled}
 use Rattle.rules.specs.declared.Norms.{Norms}
 use Rattle.rules.specs.declared.SolverParam.{SolverParam}
-use Rattle.rules.specs.declared.Verdict.{Verdict}
-use Rattle.rules.specs.declared.Verdict.TheVariants.{GoesOn, Ends}
 use Rattle.rules.specs.Arithmetic.{+0}
 use Rattle.rules.specs.Limits.{most_steps}
 use Rattle.rules.specs.Product.{cone_work}
 use Rattle.rules.specs.Problem.{Problem, blocks, work_length}
 use Rattle.rules.specs.Step.{State}
-use Rattle.rules.specs.Run.{piece_from, is_cone_failure, allowance}
+use Rattle.rules.specs.Run.{Verdict, GoesOn, Ends, piece_from, is_cone_failure, allowance}
 use Rattle.rules.specs.Progress.{Log, untouched, log_from}
 use Rattle.iterate.specs.declared.Iterated.{Iterated}
-use Rattle.iterate.specs.declared.Iterated.TheVariants.{Made}
 use Rattle.iterate.specs.declared.RowCounts.{RowCounts}
-use Rattle.iterate.specs.Iterate.{counts_of}
+use Rattle.iterate.specs.Iterate.{counts_of, iterated}
 use Rattle.piece_rules.specs.declared.PieceAnswer.{PieceAnswer}
 use Rattle.piece_rules.specs.declared.PieceAnswer.TheVariants.{Halted, Ended}
 use Rattle.piece_rules.specs.declared.RunLengths.{RunLengths}
@@ -48,7 +45,7 @@ laid_by (Ends e) = e
 pub record SomeSteps (given : ℕ) (p : Problem) (ns : Norms) (behind : ℕ) (s : State) (log : List Float) (answer : Iterated) (s' : State) (log' : List Float) : Type 0 where
   pub answered :
       answer
-      ≡ Made (piece_from given p ns behind 0 s).said (piece_from given p ns behind 0 s).steps (piece_from given p ns behind 0 s).rotations (counts_of (log_from p ns behind s (untouched log) ((piece_from given p ns behind 0 s).steps - behind)))
+      ≡ iterated (piece_from given p ns behind 0 s).said (piece_from given p ns behind 0 s).steps (piece_from given p ns behind 0 s).rotations (counts_of (log_from p ns behind s (untouched log) ((piece_from given p ns behind 0 s).steps - behind)))
   pub left : is_cone_failure (laid_by (piece_from given p ns behind 0 s).said) ≡ false → s' ≡ (piece_from given p ns behind 0 s).state
   pub log_left : log' ≡ (log_from p ns behind s (untouched log) ((piece_from given p ns behind 0 s).steps - behind)).places
 

@@ -3,9 +3,8 @@ ghost use Rattle.rules.specs.Problem.{problem_of};
 ghost use Rattle.piece_rules.specs.Pieces.{PieceAs, first_piece, later_piece};
 
 use crate::taking;
-use crate::taking::Start;
 use piece_rules::{LaterRefusal, PieceAnswer, RunRecord};
-use rules::{Cols, Refusal, Rows, Shape, SolverParam, Storage};
+use rules::{Cols, Rows, Shape, SolverParam, Storage};
 
 // The first piece of a run, of at most so many steps, or a refusal. The buffers are cleared and prepared as for a run; with 0 steps that is all. Like a run it has
 // six vectors on the stack, 16 * LIMIT + 6 numbers.
@@ -30,7 +29,7 @@ pub fn first_piece(
         given work.old cone_work.old log.old)
         result work.new cone_work.new log.new }
 {
-    let found = checks::check(
+    let checked = checks::check(
         par,
         rows,
         cols,
@@ -42,9 +41,9 @@ pub fn first_piece(
         work.len(),
         cone_work.len(),
     );
-    match found {
-        Refusal::Refused(e) => PieceAnswer::Refused(e),
-        Refusal::Accepted => {
+    match checked {
+        Err(ending) => PieceAnswer::Refused(ending),
+        Ok(()) => {
             let shape = Shape {
                 rows,
                 cols,
@@ -52,7 +51,7 @@ pub fn first_piece(
                 first: cols,
             };
             taking::taken(
-                Start::First,
+                None,
                 parameters::read_eps(par),
                 shape,
                 c,
@@ -93,7 +92,7 @@ pub fn later_piece(
         given work.old cone_work.old log.old «record»)
         result work.new cone_work.new log.new }
 {
-    let found = later_check::check_later(
+    let checked = later_check::check_later(
         record,
         par,
         rows,
@@ -107,10 +106,12 @@ pub fn later_piece(
         cone_work.len(),
         log.len(),
     );
-    match found {
-        LaterRefusal::Refused(e) => PieceAnswer::Refused(e),
-        LaterRefusal::StaleRun => PieceAnswer::StaleRun,
-        LaterRefusal::Accepted => {
+    match checked {
+        Err(refusal) => match refusal {
+            LaterRefusal::Refused(ending) => PieceAnswer::Refused(ending),
+            LaterRefusal::StaleRun => PieceAnswer::StaleRun,
+        },
+        Ok(()) => {
             let shape = Shape {
                 rows,
                 cols,
@@ -118,7 +119,7 @@ pub fn later_piece(
                 first: cols,
             };
             taking::taken(
-                Start::Later(record),
+                Some(record),
                 parameters::read_eps(par),
                 shape,
                 c,

@@ -3,9 +3,8 @@ ghost use Rattle.rules.specs.Split.{split_of};
 ghost use Rattle.piece_rules.specs.Pieces.{PieceAs, first_split_piece, later_split_piece};
 
 use crate::taking;
-use crate::taking::Start;
 use piece_rules::{LaterRefusal, PieceAnswer, RunRecord};
-use rules::{Cols, Refusal, Rows, Shape, SolverParam, Storage};
+use rules::{Cols, Rows, Shape, SolverParam, Storage};
 
 // The first piece of a run whose dense A stands in two slices.
 pub fn first_split_piece<'a>(
@@ -30,7 +29,7 @@ pub fn first_split_piece<'a>(
         given work.old cone_work.old log.old)
         result work.new cone_work.new log.new }
 {
-    let found = checks::check_split(
+    let checked = checks::check_split(
         par,
         rows,
         cols,
@@ -43,9 +42,9 @@ pub fn first_split_piece<'a>(
         work.len(),
         cone_work.len(),
     );
-    match found {
-        Refusal::Refused(e) => PieceAnswer::Refused(e),
-        Refusal::Accepted => {
+    match checked {
+        Err(ending) => PieceAnswer::Refused(ending),
+        Ok(()) => {
             let shape = Shape {
                 rows,
                 cols,
@@ -53,7 +52,7 @@ pub fn first_split_piece<'a>(
                 first,
             };
             taking::taken(
-                Start::First,
+                None,
                 parameters::read_eps(par),
                 shape,
                 c,
@@ -94,7 +93,7 @@ pub fn later_split_piece<'a>(
         given work.old cone_work.old log.old «record»)
         result work.new cone_work.new log.new }
 {
-    let found = later_check::check_later_split(
+    let checked = later_check::check_later_split(
         record,
         par,
         rows,
@@ -109,10 +108,12 @@ pub fn later_split_piece<'a>(
         cone_work.len(),
         log.len(),
     );
-    match found {
-        LaterRefusal::Refused(e) => PieceAnswer::Refused(e),
-        LaterRefusal::StaleRun => PieceAnswer::StaleRun,
-        LaterRefusal::Accepted => {
+    match checked {
+        Err(refusal) => match refusal {
+            LaterRefusal::Refused(ending) => PieceAnswer::Refused(ending),
+            LaterRefusal::StaleRun => PieceAnswer::StaleRun,
+        },
+        Ok(()) => {
             let shape = Shape {
                 rows,
                 cols,
@@ -120,7 +121,7 @@ pub fn later_split_piece<'a>(
                 first,
             };
             taking::taken(
-                Start::Later(record),
+                Some(record),
                 parameters::read_eps(par),
                 shape,
                 c,

@@ -1,16 +1,13 @@
 // The steps of a piece, and how its vectors and its answer are left.
-ghost use Rattle.std.specs.Prelude.{ℕ, ◌*◌, ◌<◌, min, ◌≡◌};
-ghost use Rattle.rules.specs.declared.Verdict.{Verdict};
+ghost use Rattle.std.specs.Prelude.{◌*◌, ◌<◌, min, ◌≡◌};
 ghost use Rattle.rules.specs.Problem.{slices, problem_in};
 ghost use Rattle.step.specs.Update.{state_of, StepReady};
-ghost use Rattle.iterate.specs.declared.Iterated.TheVariants.{Made};
-ghost use Rattle.iterate.specs.declared.RowCounts.{RowCounts};
 ghost use Rattle.piece_rules.specs.Pieces.{PieceAs, steps_taken};
 ghost use Rattle.pieces.specs.Taking.{Lent, Behind, log_of, SomeSteps, Counted, told_by, laid_by};
 
 use iterate::{Iterated, RowCounts};
 use piece_rules::{PieceAnswer, RunLengths, RunRecord};
-use rules::{Answer, Ending, Logged, Norms, Shape, SolverParam, Verdict};
+use rules::{Answer, Ending, Logged, Norms, Shape, SolverParam};
 
 // At most so many steps from what the vectors hold, when others are behind; then they come into work: as the ending says, or unscaled where the piece halts.
 pub(crate) fn steps_in(
@@ -74,7 +71,7 @@ pub(crate) fn steps_in(
         cone_work,
         &mut log[start..end],
     );
-    let ending = laid_by(ran);
+    let ending = laid_by(ran.said);
     let m = shape.rows;
     let n = shape.cols;
     settle::settle(
@@ -90,10 +87,7 @@ fn rows_end(written: u64, end: usize) -> usize
     ensures { result ≡ min (4 * written) end }
 {
     let after = (4 * written) as usize;
-    if after <= end {
-        return after;
-    }
-    end
+    after.min(end)
 }
 
 // The steps; none where none is given.
@@ -131,29 +125,31 @@ fn some_steps(
         log.new }
 {
     if given == 0 {
-        let none = RowCounts {
-            written: 0,
-            dropped: 0,
+        return Iterated {
+            said: None,
+            steps: u64::from(behind),
+            rotations: 0,
+            rows: RowCounts {
+                written: 0,
+                dropped: 0,
+            },
         };
-        return Iterated::Made(Verdict::GoesOn, behind as u64, 0, none);
     }
+    // the sizes fit
     iterate::iterate(
         par, shape, c, a1, a2, b, words, norms, behind, given, x, y, dp_tau, dp_sigma, rx, tx,
         cone_work, log,
     )
+    .unwrap()
 }
 
 // The ending by which the vectors come into work: that of the run, and of a piece that halts one that leaves x and y unscaled.
-fn laid_by(ran: Iterated) -> Ending
-    ensures { (said : Verdict) (k q : ℕ) (rows : RowCounts) → ran ≡ Made said k q rows → result ≡ laid_by said }
+fn laid_by(said: Option<Ending>) -> Ending
+    ensures { result ≡ laid_by said }
 {
-    match ran {
-        Iterated::Made(v, _, _, _) => match v {
-            Verdict::Ends(e) => e,
-            Verdict::GoesOn => Ending::ExcessIterUnscaled(0.0, 0.0),
-        },
-        // the sizes always fit here
-        Iterated::No => Ending::ConeFailure(0),
+    match said {
+        Some(ending) => ending,
+        None => Ending::ExcessIterUnscaled(0.0, 0.0),
     }
 }
 
@@ -167,52 +163,38 @@ fn told(
     rotations: u64,
     rows: RowCounts,
 ) -> PieceAnswer
-    requires { (said : Verdict) (k q : ℕ) (new : RowCounts) → ran ≡ Made said k q new → Counted rotations rows q new }
-    ensures { (said : Verdict) (k q : ℕ) (new : RowCounts) → ran ≡ Made said k q new
-        → result ≡ told_by lengths par norms tau rotations rows said k q new }
+    requires { Counted rotations rows ran.rotations ran.rows }
+    ensures { result
+        ≡ told_by lengths par norms tau rotations rows ran.said ran.steps ran.rotations
+        ran.rows }
 {
-    match ran {
-        Iterated::Made(v, k, q, new) => {
-            let all = rotations + q;
-            let written = rows.written + new.written;
-            let dropped = rows.dropped + new.dropped;
-            match v {
-                Verdict::Ends(e) => PieceAnswer::Ended(
-                    Logged {
-                        answer: Answer {
-                            ending: e,
-                            steps: k,
-                            rotations: all,
-                        },
-                        written,
-                        dropped,
-                    },
-                    RunRecord {
-                        lengths,
-                        par,
-                        norms,
-                        tau,
-                        steps: k,
-                        rotations: all,
-                        written,
-                        dropped,
-                        ended: true,
-                    },
-                ),
-                Verdict::GoesOn => PieceAnswer::Halted(RunRecord {
-                    lengths,
-                    par,
-                    norms,
-                    tau,
-                    steps: k,
-                    rotations: all,
-                    written,
-                    dropped,
-                    ended: false,
-                }),
-            }
+    let record = RunRecord {
+        lengths,
+        par,
+        norms,
+        tau,
+        steps: ran.steps,
+        rotations: rotations + ran.rotations,
+        written: rows.written + ran.rows.written,
+        dropped: rows.dropped + ran.rows.dropped,
+        ended: ran.said.is_some(),
+    };
+    match ran.said {
+        None => PieceAnswer::Halted(record),
+        Some(ending) => {
+            let answer = Answer {
+                ending,
+                steps: record.steps,
+                rotations: record.rotations,
+            };
+            PieceAnswer::Ended(
+                Logged {
+                    answer,
+                    written: record.written,
+                    dropped: record.dropped,
+                },
+                record,
+            )
         }
-        // the sizes always fit here
-        Iterated::No => PieceAnswer::StaleRun,
     }
 }

@@ -9,24 +9,16 @@ ghost use Rattle.pieces.specs.Starts.{Begins, taken_by, lengths_lent};
 use crate::stepping;
 use iterate::RowCounts;
 use piece_rules::{PieceAnswer, RunLengths, RunRecord};
-use prepare::Prepared;
 use rules::{LIMIT, MOST_WORDS, Shape, SolverParam};
-
-// Which piece of a run: the first, or a later one, taken up by its record.
-#[derive(Clone, Copy)]
-pub(crate) enum Start {
-    First,
-    Later(RunRecord),
-}
 
 // The longest x and the longest y.
 const LONG_X: usize = 3 * LIMIT + 1;
 
 const LONG_Y: usize = 2 * LIMIT + 1;
 
-// The piece is over the plain words of the list. Its six vectors are held apart, as those of a run are.
+// The first piece of a run, or a later one, taken up by its record. It is over the plain words of the list. Its six vectors are held apart, as those of a run are.
 pub(crate) fn taken<'a>(
-    start: Start,
+    start: Option<RunRecord>,
     par: SolverParam,
     shape: Shape,
     c: &[f64],
@@ -63,8 +55,8 @@ pub(crate) fn taken<'a>(
         log: log.len(),
     };
     let mut plain = [0u16; MOST_WORDS];
-    let flattened = groups::flatten(words, &mut plain);
-    let count = groups::count_of(flattened);
+    // no list that was accepted has more words
+    let count = groups::flatten(words, &mut plain).unwrap();
     let needed = words::cone_work_len(&plain[..count]);
     let mut x = [0.0; LONG_X];
     let mut y = [0.0; LONG_Y];
@@ -83,20 +75,20 @@ pub(crate) fn taken<'a>(
         &plain[..count],
         lengths,
         given,
-        &mut x[0..nx],
-        &mut y[0..ny],
-        &mut dp_tau[0..nx],
-        &mut dp_sigma[0..ny],
-        &mut rx[0..nx],
-        &mut tx[0..nx],
+        &mut x[..nx],
+        &mut y[..ny],
+        &mut dp_tau[..nx],
+        &mut dp_sigma[..ny],
+        &mut rx[..nx],
+        &mut tx[..nx],
         work,
-        &mut cone_work[0..needed],
+        &mut cone_work[..needed],
         log,
     )
 }
 
 fn piece_in<'a>(
-    start: Start,
+    start: Option<RunRecord>,
     par: SolverParam,
     shape: Shape,
     c: &[f64],
@@ -127,11 +119,11 @@ fn piece_in<'a>(
         result work.new cone_work.new log.new }
 {
     match start {
-        Start::First => first_in(
+        None => first_in(
             par, shape, c, a1, a2, b, words, lengths, given, x, y, dp_tau, dp_sigma, rx, tx, work,
             cone_work, log,
         ),
-        Start::Later(record) => later_in(
+        Some(record) => later_in(
             record, par, shape, c, a1, a2, b, words, lengths, given, x, y, dp_tau, dp_sigma, rx,
             tx, work, cone_work, log,
         ),
@@ -168,19 +160,17 @@ fn first_in<'a>(
         work.old cone_work.old log.old)
         result work.new cone_work.new log.new }
 {
-    linalg::clear(cone_work);
+    cone_work.fill(0.0);
+    // the sizes fit
+    let norms = prepare::prepare(par, shape, c, a1, a2, b, words, x, y, dp_tau, dp_sigma).unwrap();
     let none = RowCounts {
         written: 0,
         dropped: 0,
     };
-    match prepare::prepare(par, shape, c, a1, a2, b, words, x, y, dp_tau, dp_sigma) {
-        Prepared::Done(norms) => stepping::steps_in(
-            par, shape, c, a1, a2, b, words, lengths, norms, 0, 0, none, given, x, y, dp_tau,
-            dp_sigma, rx, tx, work, cone_work, log,
-        ),
-        // the sizes always fit here
-        Prepared::No => PieceAnswer::StaleRun,
-    }
+    stepping::steps_in(
+        par, shape, c, a1, a2, b, words, lengths, norms, 0, 0, none, given, x, y, dp_tau, dp_sigma,
+        rx, tx, work, cone_work, log,
+    )
 }
 
 // A later piece: its vectors come back from work, with the record's tau in its place. Where no step is given, nothing is changed.

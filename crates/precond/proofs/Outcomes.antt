@@ -16,13 +16,6 @@ pub precond_outcomes_coincide : {fits : Bool} {p : Problem} {tau sigma : List Fl
     → PrecondOutcome fits p tau sigma r tau₁ sigma₁ → PrecondOutcome fits p tau sigma s tau₂ sigma₂ → (r ≡ s) × (tau₁ ≡ tau₂) × (sigma₁ ≡ sigma₂)
 precond_outcomes_coincide o q = (o.answered ∙ sym q.answered, o.tau_left ∙ sym q.tau_left, o.sigma_left ∙ sym q.sigma_left)
 
--- how it shows its outcome
-pub precond_refused : {fits : Bool} {p : Problem} {tau sigma : List Float} → fits ≡ false → PrecondOutcome fits p tau sigma false tau sigma
-precond_refused e = record { answered = rw e; tau_left = rw e; sigma_left = rw e }
-
-pub precond_done : {fits : Bool} {p : Problem} {tau sigma tau' sigma' : List Float} → fits ≡ true → tau' ≡ dp_tau_of p tau → sigma' ≡ dp_sigma_of p tau → PrecondOutcome fits p tau sigma true tau' sigma'
-precond_done e is_tau is_sigma = record { answered = rw e; tau_left = rw (e, is_tau); sigma_left = rw (e, is_sigma) }
-
 -- what the test says of the outcome
 module _ {fits : Bool} {p : Problem} {tau sigma : List Float} {answer : Bool} {tau' sigma' : List Float} (o : PrecondOutcome fits p tau sigma answer tau' sigma') where
   pub precond_ruled : fits ≡ true → (answer ≡ true) × (tau' ≡ dp_tau_of p tau) × (sigma' ≡ dp_sigma_of p tau)

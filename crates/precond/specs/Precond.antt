@@ -6,10 +6,12 @@ use Rattle.rules.specs.Vectors.{added}
 use Rattle.rules.specs.Matrices.{absadded_cols, absadded_rows}
 use Rattle.rules.specs.Blocks.{blocks_of, is_bad_cone}
 use Rattle.rules.specs.Product.{group_all}
-use Rattle.rules.specs.Problem.{Problem, Slices, Embed, embed_in, column}
+use Rattle.rules.specs.Problem.{Problem, Slices, Embed, column}
 use Rattle.rules.specs.Step.{part}
 use Rattle.rules.specs.Prepare.{sums_x, sums_y, sums_s, sums_tau, dp_tau_of, dp_sigma_of}
+use Rattle.shape.specs.declared.Problem as handed
 use Rattle.shape.specs.Fitting.{operators_fit, fits_x, fits_y}
+use Rattle.shape.specs.Lent.{lent_slices}
 
 -- the sizes are within the limits, c, A and b have the lengths that they ask, and the cone list is no BadCone for m places
 abbrev pub problem_fits : Shape → List Float → Slices → List Float → List ℕ → Bool
@@ -23,15 +25,16 @@ pub record Covers (shape : Shape) (words : List ℕ) : Type 0 where
 abbrev pub precond_fits : Shape → List Float → Slices → List Float → List ℕ → List Float → List Float → Bool
 precond_fits shape c a b words tau sigma = problem_fits shape c a b words && fits_x shape tau && fits_y shape sigma
 
+-- the same of a problem that is handed over
+abbrev pub lent_precond_fits : handed.Problem → List Float → List Float → Bool
+lent_precond_fits p tau sigma =
+    precond_fits p.operators.shape p.operators.c.now (lent_slices p.operators) p.operators.b.now p.words.now tau sigma
+
 -- The complete outcome: it answers whether all fits. If so, both diagonals hold what the rules say, and if not, what they held before.
 pub record PrecondOutcome (fits : Bool) (p : Problem) (tau sigma : List Float) (answer : Bool) (tau' sigma' : List Float) : Type 0 where
   pub answered : answer ≡ fits
   pub tau_left : tau' ≡ cond fits (dp_tau_of p tau) tau
   pub sigma_left : sigma' ≡ cond fits (dp_sigma_of p tau) sigma
-
--- c, A and b as operators: their absolute sums are added up from the left in either edition, so that edition one stands for both
-abbrev pub operators_in : Shape → List Float → Slices → List Float → Embed
-operators_in shape c a b = embed_in 1 shape c a b
 
 -- ---- abssum: the absolute sums of the operator's columns are added to what the parts of a vector like x hold
 module _ (k : Embed) (v : List Float) where

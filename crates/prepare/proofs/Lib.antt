@@ -1,2 +1,1 @@
-pub mod Starting
 pub mod Outcomes

@@ -8,17 +8,11 @@ ghost use Rattle.prepare.specs.Prepare.{prepare_fits, PreparedOutcome};
 
 use precond::calc_precond;
 use rules::{Norms, Shape, SolverParam};
-use shape::{fits_x, fits_y};
-
-// What preparing answers: the norms of b and c, or a plain no.
-#[derive(Clone, Copy)]
-pub enum Prepared {
-    Done(Norms),
-    No,
-}
+use shape::{Operators, Problem, fits_x, fits_y};
 
 // The norms of b and c, the first x and y, and the two diagonals. Where a length, a size or the cone list doesn't fit, it answers
 // no and changes nothing.
+#[tactic(auto, using(precond::proofs::Fitting::all_fit))]
 pub fn prepare<'a>(
     par: SolverParam,
     shape: Shape,
@@ -31,7 +25,7 @@ pub fn prepare<'a>(
     y: &mut [f64],
     dp_tau: &mut [f64],
     dp_sigma: &mut [f64],
-) -> Prepared
+) -> Option<Norms>
     ensures { let a = slices a1.now a2.now in
         PreparedOutcome
         (prepare_fits shape c.now a b.now words.now x.old
@@ -40,14 +34,21 @@ pub fn prepare<'a>(
         y.old dp_tau.old dp_sigma.old result x.new y.new
         dp_tau.new dp_sigma.new }
 {
-    if !fits_x(shape, x) {
-        return Prepared::No;
+    let operators = Operators {
+        shape,
+        c,
+        a1,
+        a2,
+        b,
+    };
+    let problem = Problem {
+        operators,
+        words,
+        par,
+    };
+    if fits_x(shape, x) && fits_y(shape, y) && calc_precond(&problem, dp_tau, dp_sigma) {
+        Some(start::start(par.edition, shape, c, a1, a2, b, x, y))
+    } else {
+        None
     }
-    if !fits_y(shape, y) {
-        return Prepared::No;
-    }
-    if !calc_precond(par, shape, c, a1, a2, b, words, dp_tau, dp_sigma) {
-        return Prepared::No;
-    }
-    Prepared::Done(start::start(par.edition, shape, c, a1, a2, b, x, y))
 }

@@ -13,6 +13,7 @@ use rules::{Norms, Shape};
 use shape::column;
 
 // The norms of b, then c, for which the front of x is used; then x and y as they start.
+#[tactic(auto, unfolding(rules::specs::Prepare::start_x))]
 pub(crate) fn start(
     edition: u32,
     shape: Shape,
@@ -35,6 +36,7 @@ pub(crate) fn start(
 }
 
 // The norms of b, then c, worked out at the front of x.
+#[tactic(auto, unfolding(rules::specs::Prepare::with_b, rules::specs::Prepare::with_c, rules::specs::Prepare::norms))]
 fn calc_norms(
     edition: u32,
     shape: Shape,
@@ -52,11 +54,9 @@ fn calc_norms(
     ensures norms_are { result ≡ norms (embed_in edition shape c.now (slices a1.now a2.now)
         b.now) x.old }
 {
-    let norm_b = norm_in(edition, shape.rows.0, b, x);
-    let norm_c = norm_in(edition, shape.cols.0, c, x);
     Norms {
-        b: norm_b,
-        c: norm_c,
+        b: norm_in(edition, shape.rows.0, b, x),
+        c: norm_in(edition, shape.cols.0, c, x),
     }
 }
 
@@ -68,11 +68,12 @@ fn norm_in(edition: u32, rows: usize, v: &[f64], x: &mut [f64]) -> f64
     ensures x_left { x.new ≡ column_in edition rows v.now (take rows x.old) ++ drop rows x.old }
     ensures norm { result ≡ fr_norm_by edition (take rows x.new) }
 {
-    column_in(edition, v, &mut x[0..rows]);
-    fr_norm(edition, &x[0..rows])
+    column_in(edition, v, &mut x[..rows]);
+    fr_norm(edition, &x[..rows])
 }
 
 // t becomes the matrix of one column v times 1.
+#[tactic(auto, unfolding(rules::specs::Prepare::column_in, rules::specs::Helpers::one))]
 fn column_in(edition: u32, v: &[f64], t: &mut [f64])
     requires v_len { length v.now ≡ length t.old }
     requires t_len_bound { length t.old ≤ limit }
@@ -83,6 +84,7 @@ fn column_in(edition: u32, v: &[f64], t: &mut [f64])
     matop_by::op_by(edition, k, 1.0, v, &one, 0.0, t);
 }
 
+#[tactic(auto, unfolding(rules::specs::Prepare::fr_norm_by))]
 fn fr_norm(edition: u32, t: &[f64]) -> f64
     ensures { result ≡ fr_norm_by edition t.now }
 {
@@ -91,6 +93,7 @@ fn fr_norm(edition: u32, t: &[f64]) -> f64
 }
 
 // x and y are multiplied by 0, and tau is set to 1.
+#[tactic(auto, unfolding(rules::specs::Helpers::one))]
 fn init_vecs(shape: Shape, x: &mut [f64], y: &mut [f64])
     requires { LikeX shape x.old }
     ensures x_left { x.new ≡ set (scaled +0 x.old) (shape.cols.0 + shape.rows.0 + shape.rows.0) one }
@@ -108,7 +111,7 @@ fn init_vecs(shape: Shape, x: &mut [f64], y: &mut [f64])
 fn times_zero(v: &mut [f64])
     ensures { v.new ≡ scaled +0 v.old }
 {
-    for i in 0..v.len() {
-        v[i] = 0.0 * v[i];
+    for u in v.iter_mut() {
+        *u = 0.0 * *u;
     }
 }

@@ -7,43 +7,37 @@ ghost use Rattle.rules.specs.Product.{proj_all, product_fits, ProductOutcome};
 
 use block::places_of;
 use cone::proj;
-use rules::{Product, Projection, SolverParam, Word};
+use rules::{Product, Projection, SolverParam};
 use word::read_word;
 use words::product_fits;
 
 // Projects the blocks of a list that fits.
-fn proj_all(par: SolverParam, dual: bool, words: &[u16], x: &mut [f64], work: &mut [f64]) -> Product
+fn proj_all(
+    par: SolverParam,
+    dual: bool,
+    words: &[u16],
+    x: &mut [f64],
+    work: &mut [f64],
+) -> Option<Product>
     requires { product_fits par words.now x.old work.old ≡ true }
     ensures { ProductOutcome true
         (proj_all par dual (blocks_of words.now) x.old work.old) x.old
         work.old result x.new work.new }
 {
-    let mut start: usize = 0;
-    let mut rotations: u64 = 0;
-    let mut number: usize = 0;
-    for i in 0..words.len() {
-        match read_word(words[i]) {
-            // no list that fits has one
-            Word::Bad => return Product::No,
-            Word::Block(block) => {
-                let end = start + places_of(block);
-                match proj(par, dual, block, &mut x[start..end], work) {
-                    Projection::Done(made) => {
-                        rotations = rotations + made;
-                    }
-                    Projection::Failed(made) => {
-                        let all = rotations + made;
-                        return Product::Failed(number, all);
-                    }
-                    // every block of a list that fits does
-                    Projection::No => return Product::No,
-                }
-                start = end;
-                number = number + 1;
-            }
+    let mut start = 0;
+    let mut rotations = 0;
+    let mut number = 0;
+    for &word in words {
+        let block = read_word(word)?;
+        let end = start + places_of(block);
+        match proj(par, dual, block, &mut x[start..end], work)? {
+            Projection::Done(made) => rotations += made,
+            Projection::Failed(made) => return Some(Product::Failed(number, rotations + made)),
         }
+        start = end;
+        number += 1;
     }
-    Product::Done(rotations)
+    Some(Product::Done(rotations))
 }
 
 // Projects each block of a list, and stops at the first that fails: the answer names it, counted from 0. Where the list, a length or the
@@ -54,13 +48,13 @@ pub fn product_proj(
     words: &[u16],
     x: &mut [f64],
     work: &mut [f64],
-) -> Product
+) -> Option<Product>
     ensures { ProductOutcome (product_fits par words.now x.old work.old)
         (proj_all par dual (blocks_of words.now) x.old work.old) x.old
         work.old result x.new work.new }
 {
     if !product_fits(par, words, x.len(), work.len()) {
-        return Product::No;
+        return None;
     }
     proj_all(par, dual, words, x, work)
 }

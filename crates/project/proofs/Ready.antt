@@ -7,6 +7,7 @@ use mathlib.Core.List.{List}
 use borrow.Author.Tests.{leb-true, eqb-true, le-leb, eq-eqb, not-true, not-false}
 use lib.Dec.{leb, eqb}
 use lib.Ieee.{Float}
+use Rattle.std.specs.Prelude.{Option}
 use lib.ListN.{length}
 use Rattle.rules.specs.declared.Product.{Product}
 use Rattle.rules.specs.declared.Shape.{Shape}
@@ -50,8 +51,5 @@ cones_ready par m words cone within h =
 pub project_fits_lem : {par : SolverParam} {shape : Shape} {words : List ℕ} {x : List Float} (cone : List Float) → Within shape → LikeX shape x → ConesReady par shape.rows.0 words (length cone) → project_fits par shape words x cone ≡ true
 project_fits_lem cone w like r = rw (x_fits w like) (cones_fit r)
 
-pub projected_true : {fits : Bool} {ruled : Passed} {x cone : List Float} {answer : Product} {x' cone' : List Float} → ProductOutcome fits ruled x cone answer x' cone' → fits ≡ true → ProductOutcome true ruled x cone answer x' cone'
+pub projected_true : {fits : Bool} {ruled : Passed} {x cone : List Float} {answer : Option Product} {x' cone' : List Float} → ProductOutcome fits ruled x cone answer x' cone' → fits ≡ true → ProductOutcome true ruled x cone answer x' cone'
 projected_true o e = record { answered = rw e at o.answered; cone_left = rw e at o.cone_left; work_left = rw e at o.work_left }
-
-pub projected_if : {fits : Bool} {ruled : Passed} {x cone : List Float} {answer : Product} {x' cone' : List Float} → fits ≡ true → ProductOutcome true ruled x cone answer x' cone' → ProductOutcome fits ruled x cone answer x' cone'
-projected_if e o = record { answered = rw e o.answered; cone_left = rw e o.cone_left; work_left = rw e o.work_left }

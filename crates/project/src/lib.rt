@@ -13,24 +13,23 @@ use words::product_fits;
 
 // Projects all dual blocks, then all primal blocks, and stops at the first that fails. Where a length, a size, the cone list or
 // the sweep limit doesn't fit, it answers no and changes nothing.
+#[tactic(auto, using(crate::proofs::Ready::cones_ready))]
 pub fn project(
     par: SolverParam,
     shape: Shape,
     words: &[u16],
     x: &mut [f64],
     cone_work: &mut [f64],
-) -> Product
+) -> Option<Product>
     ensures { ProductOutcome (project_fits par shape words.now x.old cone_work.old)
         (projected_in par shape words.now x.old cone_work.old)
         x.old cone_work.old result x.new cone_work.new }
 {
-    if !fits_x(shape, x) {
-        return Product::No;
+    if fits_x(shape, x) && product_fits(par, words, shape.rows.0, cone_work.len()) {
+        project_fitting(par, shape, words, x, cone_work)
+    } else {
+        None
     }
-    if !product_fits(par, words, shape.rows.0, cone_work.len()) {
-        return Product::No;
-    }
-    project_fitting(par, shape, words, x, cone_work)
 }
 
 // Projects both passes where all fits.
@@ -40,7 +39,7 @@ fn project_fitting(
     words: &[u16],
     x: &mut [f64],
     cone_work: &mut [f64],
-) -> Product
+) -> Option<Product>
     requires cones_ready { ConesReady par shape.rows.0 words.now (length cone_work.old) }
     requires cols_le_limit { shape.cols.0 ≤ limit }
     requires like_x { LikeX shape x.old }
@@ -52,17 +51,13 @@ fn project_fitting(
     let n = shape.cols.0;
     let nm = n + m;
     let nmm = nm + m;
-    let dual = product::product_proj(par, true, words, &mut x[n..nm], cone_work);
-    match dual {
-        Product::Done(q) => {
-            let primal = product::product_proj(par, false, words, &mut x[nm..nmm], cone_work);
-            match primal {
-                Product::Done(r) => Product::Done(q + r),
-                Product::Failed(block, r) => Product::Failed(block, q + r),
-                Product::No => Product::No,
-            }
-        }
-        Product::Failed(block, q) => Product::Failed(block, q),
-        Product::No => Product::No,
+    let dual = product::product_proj(par, true, words, &mut x[n..nm], cone_work)?;
+    let Product::Done(q) = dual else {
+        return Some(dual);
+    };
+    let primal = product::product_proj(par, false, words, &mut x[nm..nmm], cone_work)?;
+    match primal {
+        Product::Done(r) => Some(Product::Done(q + r)),
+        Product::Failed(block, r) => Some(Product::Failed(block, q + r)),
     }
 }

@@ -6,13 +6,13 @@ use mathlib.Core.Path.{◌≡◌, refl, ◌∙◌}
 use mathlib.Core.Bool.{Bool, true, false, ◌&&◌}
 use mathlib.Core.List.{List}
 use lib.Dec.{eqb, leb}
-use lib.Ieee.{Float, nan, binary64, to_bits}
-use lib.ListN.{length, get_or, take, drop, set, length-set, drop_of_length-le}
+use lib.Ieee.{Float, nan}
+use lib.ListN.{length, get_or, drop, set, length-set, drop_of_length-le}
 use lib.Seq.{drop-cons, get_or-set_same, get_or-set_other}
-use borrow.Author.Tests.{lt-ltb, le-ltb, lt-leb, le-leb, leb-true, eqb-true, eqb-false}
+use borrow.Author.Tests.{lt-ltb, le-ltb, lt-leb, leb-true, eqb-true, eqb-false}
 use Rattle.rules.specs.Arithmetic.{at}
 use Rattle.patterns.specs.Words.{word_at}
-use Rattle.replay.specs.Records.{word_of, stands, stand_from, all_have, stand_before, cone_word, ConeWords}
+use Rattle.replay.specs.Records.{word_of, stands, stand_from, stand_before, cone_word, ConeWords}
 
 pub word_there : (bytes : List ℕ) (i : ℕ) → i < length bytes / 8 → word_of bytes i ≡ word_at bytes (i * 8)
 unfolding word_of
@@ -33,26 +33,10 @@ pub stand_end : (bytes : List ℕ) (from : ℕ) (xs : List Float) (i : ℕ) → 
 unfolding stand_from
 stand_end bytes from xs i h = rw (drop_of_length-le xs h)
 
-pub have_more : (pattern : ℕ) (xs : List Float) (i : ℕ) → i < length xs → all_have pattern (drop i xs) ≡ eqb (to_bits binary64 (at xs i)) pattern && all_have pattern (drop (i + 1) xs)
-unfolding all_have
-have_more pattern xs i h = rw (add-one i, drop-cons xs i nan h)
-
-pub have_end : (pattern : ℕ) (xs : List Float) (i : ℕ) → length xs ≤ i → all_have pattern (drop i xs) ≡ true
-unfolding all_have
-have_end pattern xs i h = rw (drop_of_length-le xs h)
-
 -- the first n numbers and the others
 pub before_short : (bytes : List ℕ) (from : ℕ) (xs : List Float) (n pattern : ℕ) → length xs < n → false ≡ stand_before bytes from xs n pattern
 unfolding stand_before
 before_short bytes from xs n pattern h = rw (lt-leb n (length xs) h)
-
-pub before_not : (bytes : List ℕ) (from : ℕ) (xs : List Float) (n pattern : ℕ) → n ≤ length xs → stand_from bytes from (take n xs) ≡ false → false ≡ stand_before bytes from xs n pattern
-unfolding stand_before
-before_not bytes from xs n pattern h e = rw (le-leb n (length xs) h, e)
-
-pub before_then : (bytes : List ℕ) (from : ℕ) (xs : List Float) (n pattern : ℕ) → n ≤ length xs → stand_from bytes from (take n xs) ≡ true → all_have pattern (drop n xs) ≡ stand_before bytes from xs n pattern
-unfolding stand_before
-before_then bytes from xs n pattern h e = rw (le-leb n (length xs) h, e)
 
 -- as many numbers as are compared are there
 pub before_fits : (bytes : List ℕ) (from : ℕ) (xs : List Float) (n pattern : ℕ) → stand_before bytes from xs n pattern ≡ true → n ≤ length xs

@@ -1,5 +1,6 @@
 -- A record is its bytes, eight to a word.
-use Rattle.std.specs.Prelude.{ℕ, suc, ◌+◌, ◌*◌, ◌-◌, ◌/◌, ◌<◌, Bool, true, cond, ◌&&◌, ◌≡◌, List, [], ◌∷◌, ◌++◌, leb, ltb, eqb, Float, length, get_or, take, drop}
+use Rattle.std.specs.Prelude.{ℕ, suc, ◌+◌, ◌*◌, ◌-◌, ◌/◌, ◌<◌, Bool, true, false, cond, Option, Some, None, ◌&&◌, ◌≡◌, List, [], ◌∷◌, ◌++◌, leb, ltb, eqb, Float, length, get_or, take, drop}
+use Rattle.std.specs.List.{list_all}
 use Rattle.std.specs.Float.{binary64}
 use Rattle.std.specs.Float.Ieee.{of_bits, to_bits}
 use Rattle.rules.specs.Arithmetic.{each}
@@ -9,6 +10,10 @@ use Rattle.patterns.specs.Words.{word_at}
 -- a word of the record, 0 past its end
 unfoldable pub word_of : List ℕ → ℕ → ℕ
 word_of bytes at = cond (ltb at (length bytes / 8)) (word_at bytes (at * 8)) 0
+
+-- 0 for no and 1 for yes
+unfoldable pub flag_of : List ℕ → ℕ → Option Bool
+flag_of bytes at = cond (eqb (word_of bytes at) 0) (Some false) (cond (eqb (word_of bytes at) 1) (Some true) None)
 
 unfoldable pub number_of : List ℕ → ℕ → Float
 number_of bytes at = of_bits binary64 (word_of bytes at)
@@ -26,9 +31,9 @@ unfoldable pub stand_from : List ℕ → ℕ → List Float → Bool
 stand_from bytes at [] = true
 stand_from bytes at (x ∷ xs) = stands bytes at x && stand_from bytes (suc at) xs
 
-unfoldable pub all_have : ℕ → List Float → Bool
-all_have pattern [] = true
-all_have pattern (x ∷ xs) = eqb (to_bits binary64 x) pattern && all_have pattern xs
+-- each of the numbers has the pattern
+abbrev pub all_have : ℕ → List Float → Bool
+all_have pattern xs = list_all (λ x. eqb (to_bits binary64 x) pattern) xs
 
 -- the first n numbers stand from a place on, and all after them have the pattern
 unfoldable pub stand_before : List ℕ → ℕ → List Float → ℕ → ℕ → Bool

@@ -3,12 +3,11 @@
 // what these places hold.
 #![tactic(auto)]
 
-ghost use Rattle.std.specs.Prelude.{◌+◌, ◌^◌, ◌<◌, ◌≤◌, true, ◌≡◌, [], length, take, drop};
-ghost use Rattle.replay.specs.Records.{stand_from};
+ghost use Rattle.std.specs.Prelude.{◌+◌, ◌^◌, ◌<◌, true, ◌≡◌};
 ghost use Rattle.rules.specs.Outcome.{on_paper};
 ghost use Rattle.rules.specs.Run.{solution_y};
 ghost use Rattle.replay_answers.specs.Numbers.{number_in_lists};
-ghost use Rattle.replay_answers.specs.Held.{three_of, carried, is_told, ends_after, is_left, is_logged};
+ghost use Rattle.replay_answers.specs.Held.{carried, is_told, ends_after, is_left, is_logged};
 
 use replay::record;
 use rules::{Cols, Ending, Rows};
@@ -37,23 +36,16 @@ pub fn number_of(ending: Ending) -> u64
 }
 
 // Whether this is the record's ending, k and q.
+#[tactic(auto, using(crate::proofs::Held::told_past), unfolding(crate::specs::Held::is_told))]
 pub fn is_told(record: &[u8], at: usize, ending: Ending, steps: u64, rotations: u64) -> bool
     ensures { result ≡ is_told «record».now at ending steps rotations }
 {
     // Past the end stands 0, which is no answer's number.
-    if at >= record::words(record) {
-        return false;
-    }
-    if number_of(ending) != record::word(record, at) {
-        return false;
-    }
-    if record::word(record, at + 1) != steps {
-        return false;
-    }
-    if record::word(record, at + 2) != rotations {
-        return false;
-    }
-    is_carried(record, at + 3, ending)
+    at < record::words(record)
+        && number_of(ending) == record::word(record, at)
+        && record::word(record, at + 1) == steps
+        && record::word(record, at + 2) == rotations
+        && is_carried(record, at + 3, ending)
 }
 
 // Whether the ending carries what the three words from a place on say; where there are fewer, 0.
@@ -61,31 +53,28 @@ fn is_carried(record: &[u8], at: usize, ending: Ending) -> bool
     ensures { result ≡ carried «record».now at (on_paper ending) }
 {
     match ending {
-        Ending::Converged(primal, dual, gap) => record::holds(record, at, &[primal, dual, gap]),
-        Ending::ExcessIter(primal, dual, gap) => record::holds(record, at, &[primal, dual, gap]),
+        Ending::Converged(primal, dual, gap) | Ending::ExcessIter(primal, dual, gap) => {
+            record::holds(record, at, &[primal, dual, gap])
+        }
         Ending::ExcessIterUnscaled(unbounded, infeasible) => {
             record::holds(record, at, &[unbounded, infeasible, 0.0])
         }
-        Ending::Unbounded(criterion) => record::holds(record, at, &[criterion, 0.0, 0.0]),
-        Ending::Infeasible(criterion) => record::holds(record, at, &[criterion, 0.0, 0.0]),
+        Ending::Unbounded(criterion) | Ending::Infeasible(criterion) => {
+            record::holds(record, at, &[criterion, 0.0, 0.0])
+        }
         Ending::ConeFailure(block) => record::size(record, at) == block,
-        Ending::BadParam => carries_none(record, at),
-        Ending::TooLarge => carries_none(record, at),
-        Ending::InvalidOp => carries_none(record, at),
-        Ending::BadCone => carries_none(record, at),
-        Ending::NotFinite => carries_none(record, at),
-        Ending::WorkShortage => carries_none(record, at),
+        Ending::BadParam
+        | Ending::TooLarge
+        | Ending::InvalidOp
+        | Ending::BadCone
+        | Ending::NotFinite
+        | Ending::WorkShortage => record::holds(record, at, &[0.0, 0.0, 0.0]),
     }
-}
-
-fn carries_none(record: &[u8], at: usize) -> bool
-    ensures { result ≡ stand_from «record».now at (three_of []) }
-{
-    record::holds(record, at, &[0.0, 0.0, 0.0])
 }
 
 // Whether both buffers are left as the record says: their required places, and all others as before.
 // Past the record's end stands +0, as in the places that it leaves out.
+#[tactic(auto, using(crate::proofs::Held::left_past, replay::proofs::Records::before_fits), unfolding(crate::specs::Held::is_left))]
 pub fn is_left(record: &[u8], at: usize, before: u64, work: &[f64], cone_work: &[f64]) -> bool
     ensures { result ≡ is_left «record».now at before work.now cone_work.now }
 {
@@ -94,13 +83,9 @@ pub fn is_left(record: &[u8], at: usize, before: u64, work: &[f64], cone_work: &
     }
     let work_used = record::size(record, at + 6);
     let cone_used = record::size(record, at + 7);
-    if !record::holds_before(record, at + 8, work, work_used, before) {
-        return false;
-    }
-    if !record::holds_before(record, at + 8 + work_used, cone_work, cone_used, before) {
-        return false;
-    }
-    is_end(record, at, work_used, cone_used)
+    record::holds_before(record, at + 8, work, work_used, before)
+        && record::holds_before(record, at + 8 + work_used, cone_work, cone_used, before)
+        && is_end(record, at, work_used, cone_used)
 }
 
 // Whether the record ends where it should: after the last place, or before the first if all are +0.
@@ -108,73 +93,49 @@ fn is_end(record: &[u8], at: usize, work_used: usize, cone_used: usize) -> bool
     requires { at + 8 + work_used + cone_used < 2 ^ 64 }
     ensures { result ≡ ends_after «record».now at work_used cone_used }
 {
-    if record::word(record, at) == CONE_FAILURE {
-        return record::words(record) == at + 8;
-    }
-    record::words(record) == at + 8 + work_used + cone_used
+    let end = if record::word(record, at) == CONE_FAILURE {
+        at + 8
+    } else {
+        at + 8 + work_used + cone_used
+    };
+    record::words(record) == end
 }
 
 // Whether a log is left, and its rows counted, as the words say that a record has after those of the run: the period, the log's places, what each of
 // them held before, the rows written and dropped, and then the rows. All places after the rows are as before.
+#[tactic(auto, using(replay::proofs::Records::before_short), unfolding(crate::specs::Held::is_logged))]
 pub fn is_logged(words: &[u8], written: u64, dropped: u64, log: &[f64]) -> bool
     ensures { result ≡ is_logged words.now written dropped log.now }
 {
-    if record::word(words, 3) != written {
-        return false;
-    }
-    if record::word(words, 4) != dropped {
-        return false;
-    }
     let rows = written as usize;
-    if rows > log.len() / 4 {
-        return false;
-    }
     let before = patterns::pattern_of(record::number(words, 2));
-    if !record::holds_before(words, 5, log, 4 * rows, before) {
-        return false;
-    }
-    record::words(words) == 5 + 4 * rows
+    record::word(words, 3) == written
+        && record::word(words, 4) == dropped
+        && rows <= log.len() / 4
+        && record::holds_before(words, 5, log, 4 * rows, before)
+        && record::words(words) == 5 + 4 * rows
 }
 
 // Whether x and y are handed back as the first places of work and the next, or none where work is too
 // short. What solution_x and solution_y promise makes it so.
+#[tactic(auto, using(crate::proofs::Held::first_part, patterns::proofs::Same::bits_themselves))]
 pub fn has_parts(work: &[f64], rows: Rows, cols: Cols) -> bool
     ensures { result ≡ true }
 {
-    let n = cols.0;
-    let m = rows.0;
-    if !is_part(solution::solution_x(work, cols), work, 0, n) {
-        return false;
-    }
-    is_part(solution::solution_y(work, rows, cols), work, n, m)
+    patterns::same_bits(solution::solution_x(work, cols), part(work, 0, cols.0))
+        && patterns::same_bits(
+            solution::solution_y(work, rows, cols),
+            part(work, cols.0, rows.0),
+        )
 }
 
-fn is_part(part: &[f64], whole: &[f64], start: usize, places: usize) -> bool
-    requires { part.now ≡ solution_y places start whole.now }
-    ensures { result ≡ true }
+// So many places of the whole from one on, or none where it is too short.
+#[tactic(auto, unfolding(rules::specs::Run::solution_y))]
+fn part(whole: &[f64], start: usize, places: usize) -> &[f64]
+    ensures { result.now ≡ solution_y places start whole.now }
 {
-    if start > whole.len() {
-        return part.len() == 0;
-    }
-    if places > whole.len() - start {
-        return part.len() == 0;
-    }
-    if part.len() != places {
-        return false;
-    }
-    are_same(part, whole, start)
-}
-
-// Whether these numbers stand in a longer vector from a place on, bit for bit.
-fn are_same(part: &[f64], whole: &[f64], start: usize) -> bool
-    requires part_in_bounds { start + length part.now ≤ length whole.now }
-    requires part_value { part.now ≡ take (length part.now) (drop start whole.now) }
-    ensures { result ≡ true }
-{
-    for i in 0..part.len() {
-        if patterns::pattern_of(part[i]) != patterns::pattern_of(whole[start + i]) {
-            return false;
-        }
-    }
-    true
+    whole
+        .get(start..)
+        .and_then(|rest| rest.get(..places))
+        .unwrap_or(&[])
 }

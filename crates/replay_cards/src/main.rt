@@ -6,15 +6,9 @@ use std::io::Read;
 
 // Reads a card and answers it: whether there was a whole one, and all of the answer was written.
 fn answer_one<R: Read, P: Print>(input: &mut R, out: &P) -> bool {
-    let mut head = [0u8; 8];
-    if !lines::read(input, &mut head, 8) {
+    let Ok(length) = lines::read_word(input) else {
         return false;
-    }
-    answer_rest(input, out, patterns::word_at(&head, 0))
-}
-
-// Goes on after the length.
-fn answer_rest<R: Read, P: Print>(input: &mut R, out: &P, length: u64) -> bool {
+    };
     let mut card = [0u8; card_file::ENOUGH];
     let count = card_file::read_front(input, length as usize, &mut card);
     if count as u64 != length {
@@ -22,7 +16,7 @@ fn answer_rest<R: Read, P: Print>(input: &mut R, out: &P, length: u64) -> bool {
     }
     let mut text = [0u8; card_text::TEXT_ROOM];
     let end = card_text::answer_text(&card[..count], &mut text);
-    lines::write(out, &text[..end])
+    out.write_all(&text[..end]).is_ok()
 }
 
 // Answers so many cards, or up to one that can't be read: whether all were, and nothing follows.
@@ -35,14 +29,14 @@ fn replay<R: Read, P: Print>(input: &mut R, out: &P, cards: u64) -> bool {
     lines::at_end(input)
 }
 
+// A write of the last line that fails is told by nothing.
 fn main(rt: HostRuntime) {
     let mut input = rt.stdin();
-    let mut head = [0u8; 8];
-    if !lines::read(&mut input, &mut head, 8) {
-        lines::write(&rt, b"stopped: there is no list\n");
+    let Ok(cards) = lines::read_word(&mut input) else {
+        let _ = rt.println("stopped: there is no list");
         return;
-    }
-    if !replay(&mut input, &rt, patterns::word_at(&head, 0)) {
-        lines::write(&rt, b"stopped: a card is cut short, or one too many\n");
+    };
+    if !replay(&mut input, &rt, cards) {
+        let _ = rt.println("stopped: a card is cut short, or one too many");
     }
 }

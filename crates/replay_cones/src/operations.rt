@@ -4,63 +4,74 @@
 use replay::{record, room};
 use replay_lists::lists;
 use replay_semidefinite::semidefinite;
-use rules::Cone;
+use rules::{Cone, Projection};
 
 #[derive(Clone, Copy)]
-pub enum Found {
-    Agrees,
-    Differs,
-    Unknown,
+pub enum Operation {
+    Zero,
+    Nonnegative,
+    SecondOrder,
+    Rotated,
+    Semidefinite,
+    Product,
+    Grouping,
 }
 
-pub fn replay(operation: u64, record: &[u8]) -> Found {
-    match operation {
-        1..=4 => told(block(operation, record)),
-        5 => told(semidefinite::agrees(record)),
-        6 => told(lists::agrees(false, record)),
-        7 => told(lists::agrees(true, record)),
-        _ => Found::Unknown,
+impl TryFrom<u64> for Operation {
+    type Error = ();
+
+    fn try_from(number: u64) -> Result<Operation, ()> {
+        match number {
+            1 => Ok(Operation::Zero),
+            2 => Ok(Operation::Nonnegative),
+            3 => Ok(Operation::SecondOrder),
+            4 => Ok(Operation::Rotated),
+            5 => Ok(Operation::Semidefinite),
+            6 => Ok(Operation::Product),
+            7 => Ok(Operation::Grouping),
+            _ => Err(()),
+        }
     }
 }
 
-fn told(agrees: bool) -> Found {
-    if agrees {
-        Found::Agrees
-    } else {
-        Found::Differs
+impl Operation {
+    pub fn name(self) -> &'static str {
+        match self {
+            Operation::Zero => "zero",
+            Operation::Nonnegative => "nonnegative",
+            Operation::SecondOrder => "second-order",
+            Operation::Rotated => "rotated",
+            Operation::Semidefinite => "semidefinite",
+            Operation::Product => "product",
+            Operation::Grouping => "grouping",
+        }
+    }
+
+    pub fn agrees(self, record: &[u8]) -> bool {
+        match self {
+            Operation::Zero => projects(Cone::Zero(record::size(record, 1)), record),
+            Operation::Nonnegative => projects(Cone::RPos(record::size(record, 1)), record),
+            Operation::SecondOrder => projects(Cone::SOC(record::size(record, 1)), record),
+            Operation::Rotated => projects(Cone::RotSOC(record::size(record, 1)), record),
+            Operation::Semidefinite => semidefinite::agrees(record),
+            Operation::Product => lists::projects(record),
+            Operation::Grouping => lists::groups(record),
+        }
     }
 }
 
-// One block that needs no cone work.
-fn block(operation: u64, record: &[u8]) -> bool {
-    let flag = record::word(record, 0);
-    if flag > 1 {
+// Whether one block that needs no cone work is projected as a record says.
+fn projects(cone: Cone, record: &[u8]) -> bool {
+    let Some(dual) = record::flag(record, 0) else {
         return false;
-    }
+    };
     let size = record::size(record, 1);
-    match operation {
-        1 => projects(Cone::Zero(size), flag == 1, record, size),
-        2 => projects(Cone::RPos(size), flag == 1, record, size),
-        3 => projects(Cone::SOC(size), flag == 1, record, size),
-        4 => projects(Cone::RotSOC(size), flag == 1, record, size),
-        _ => false,
-    }
-}
-
-fn projects(cone: Cone, dual: bool, record: &[u8], size: usize) -> bool {
-    if size >= room::ROOM {
-        return false;
-    }
-    if record::words(record) != 2 * size + 2 {
+    if size >= room::ROOM || record::words(record) != 2 * size + 2 {
         return false;
     }
     let mut x = room::numbers(record, 2, size);
-    if !projects_and_not(cone, dual, &mut x, size) {
-        return false;
-    }
     // Past the record's end stands +0, as in the place too many.
-    let longer = size + 1;
-    record::holds(record, size + 2, &x[0..longer])
+    projects_and_not(cone, dual, &mut x, size) && record::holds(record, size + 2, &x[..size + 1])
 }
 
 // Projects the first places of x, and again one place more: whether that is done without a rotation,
@@ -70,12 +81,7 @@ fn projects_and_not(cone: Cone, dual: bool, x: &mut [f64], size: usize) -> bool 
         return false;
     }
     let par = semidefinite::parameters(0.0, 1);
-    let mut work = [0.0; 1];
-    let once = cone::proj(par, dual, cone, &mut x[0..size], &mut work[0..0]);
-    if !semidefinite::is_done(once, 0) {
-        return false;
-    }
-    let longer = size + 1;
-    let again = cone::proj(par, dual, cone, &mut x[0..longer], &mut work[0..0]);
-    semidefinite::is_no(again)
+    let once = cone::proj(par, dual, cone, &mut x[..size], &mut []);
+    let again = cone::proj(par, dual, cone, &mut x[..size + 1], &mut []);
+    matches!(once, Some(Projection::Done(0))) && again.is_none()
 }

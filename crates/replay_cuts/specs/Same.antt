@@ -1,25 +1,17 @@
 -- When two runs came to the same, bit for bit. Every NaN is one pattern.
-use Rattle.std.specs.Prelude.{ℕ, ◌+◌, Bool, true, false, ◌&&◌, List, [], ◌∷◌, length, take, drop, ◌==◌, nat_le, Float}
+use Rattle.std.specs.Prelude.{ℕ, ◌+◌, Bool, ◌&&◌, List, [], ◌∷◌, length, take, drop, nat_eq, nat_le, Float}
+use Rattle.std.specs.Cmp.Lexicographic.{pointwise}
 use Rattle.std.specs.Float.{binary64}
 use Rattle.std.specs.Float.Ieee.{to_bits}
+use Rattle.patterns.specs.Same.{same_bits}
 use Rattle.rules.specs.declared.Ending.{Ending}
 use Rattle.rules.specs.declared.Ending.TheVariants.{BadParam, TooLarge, InvalidOp, BadCone, NotFinite, WorkShortage, Converged, ExcessIter, ExcessIterUnscaled, Unbounded, Infeasible, ConeFailure}
 use Rattle.rules.specs.declared.Logged.{Logged}
 use Rattle.replay_answers.specs.Numbers.{number_in_lists}
 
 -- the same words, and as many
-unfoldable pub same_words : List ℕ → List ℕ → Bool
-same_words [] [] = true
-same_words [] (w ∷ ws) = false
-same_words (v ∷ vs) [] = false
-same_words (v ∷ vs) (w ∷ ws) = v == w && same_words vs ws
-
--- the same numbers, and as many
-unfoldable pub same_bits : List Float → List Float → Bool
-same_bits [] [] = true
-same_bits [] (y ∷ ys) = false
-same_bits (x ∷ xs) [] = false
-same_bits (x ∷ xs) (y ∷ ys) = to_bits binary64 x == to_bits binary64 y && same_bits xs ys
+abbrev pub same_words : List ℕ → List ℕ → Bool
+same_words = pointwise nat_eq
 
 -- what an ending carries: its criteria, or the number of the block that failed, and 0 after them
 abbrev pub carried_by : Ending → List ℕ
@@ -43,13 +35,11 @@ counts_of l =
 
 -- the same ending with the same criteria, k, q and rows
 unfoldable pub same_answer : Logged → Logged → Bool
-unfolding same_words to_bits
 same_answer one other =
     same_words (counts_of one) (counts_of other) && same_words (carried_by one.answer.ending) (carried_by other.answer.ending)
 
 -- three buffers are those that stand in one list, one after another
 unfoldable pub are_left : List Float → List Float → List Float → List Float → Bool
-unfolding same_bits
 are_left left work cone log =
     nat_le (length work + length cone) (length left)
     && same_bits work (take (length work) left)

@@ -1,8 +1,8 @@
 // A run cut in pieces, and held to the uncut one.
 use crate::handed::Handed;
-use crate::runs::Start;
 use crate::{runs, same};
 use piece_rules::{PieceAnswer, RunRecord};
+use replay_problems::problem::Problem;
 use rules::{Answer, Ending, Logged};
 
 // How a run is cut: once, after so many steps; into pieces of one step; the same with a piece of no step after each; or into pieces of up to 7 or up to 63
@@ -30,10 +30,11 @@ pub enum Came {
     Wrong,
 }
 
-// A run in pieces: how it is taken up next, the steps and the pieces that are behind, the last number drawn, and what it has come to.
+// A run in pieces: the record by which it is taken up next, none before its first piece, the steps and the pieces that are behind, the last number drawn, and
+// what it has come to.
 #[derive(Clone, Copy)]
 pub struct InPieces {
-    pub start: Start,
+    pub start: Option<RunRecord>,
     pub steps: u64,
     pub pieces: u64,
     pub drawn: u64,
@@ -65,37 +66,14 @@ fn given(cuts: Cuts, pieces: u64, drawn: u64) -> u32 {
     }
 }
 
-// A run before its first piece.
-fn begun(seed: u64) -> InPieces {
-    InPieces {
-        start: Start::First,
-        steps: 0,
-        pieces: 0,
-        drawn: draw(seed),
-        came: Came::Open,
-    }
-}
-
-// A run that came to this.
-fn over(run: InPieces, start: Start, came: Came) -> InPieces {
-    InPieces {
-        start,
-        steps: run.steps,
-        pieces: std::num::wrapping_add_u64(run.pieces, 1),
-        drawn: run.drawn,
-        came,
-    }
-}
-
 // A refusal as a run's answer.
 fn refused(ending: Ending) -> Logged {
-    let answer = Answer {
-        ending,
-        steps: 0,
-        rotations: 0,
-    };
     Logged {
-        answer,
+        answer: Answer {
+            ending,
+            steps: 0,
+            rotations: 0,
+        },
         written: 0,
         dropped: 0,
     }
@@ -103,155 +81,138 @@ fn refused(ending: Ending) -> Logged {
 
 // Whether a record tells what was answered at its run's end.
 fn is_told(record: RunRecord, logged: Logged) -> bool {
-    let answer = logged.answer;
     record.ended
-        && record.steps == answer.steps
-        && record.rotations == answer.rotations
+        && record.steps == logged.answer.steps
+        && record.rotations == logged.answer.rotations
         && record.written == logged.written
         && record.dropped == logged.dropped
 }
 
-// Only the first piece may be refused, a halted one has taken all of its steps, and the last one's record tells its answer.
-fn after(run: InPieces, given: u32, answer: PieceAnswer) -> InPieces {
-    match answer {
-        PieceAnswer::Refused(ending) => {
-            if run.pieces == 0 {
-                return over(run, Start::First, Came::Whole(refused(ending)));
-            }
-            over(run, Start::First, Came::Wrong)
-        }
-        PieceAnswer::StaleRun => over(run, Start::First, Came::Wrong),
-        PieceAnswer::Halted(record) => went_on(run, given, record),
-        PieceAnswer::Ended(logged, record) => {
-            if is_told(record, logged) {
-                return over(run, Start::Later(record), Came::Whole(logged));
-            }
-            over(run, Start::First, Came::Wrong)
+impl InPieces {
+    // A run before its first piece.
+    fn begun(seed: u64) -> InPieces {
+        InPieces {
+            start: None,
+            steps: 0,
+            pieces: 0,
+            drawn: draw(seed),
+            came: Came::Open,
         }
     }
-}
 
-fn went_on(run: InPieces, given: u32, record: RunRecord) -> InPieces {
-    let steps = std::num::wrapping_add_u64(run.steps, given as u64);
-    if record.steps != steps || record.ended {
-        return over(run, Start::First, Came::Wrong);
+    // A run that came to this.
+    fn over(self, start: Option<RunRecord>, came: Came) -> InPieces {
+        InPieces {
+            start,
+            pieces: self.pieces.wrapping_add(1),
+            came,
+            ..self
+        }
     }
-    InPieces {
-        start: Start::Later(record),
-        steps,
-        pieces: std::num::wrapping_add_u64(run.pieces, 1),
-        drawn: draw(run.drawn),
-        came: Came::Open,
-    }
-}
 
-fn is_open(run: InPieces) -> bool {
-    let came = run.came;
-    match came {
-        Came::Open => true,
-        Came::Whole(_) => false,
-        Came::Wrong => false,
+    // Only the first piece may be refused, a halted one has taken all of its steps, and the last one's record tells its answer.
+    fn after(self, given: u32, answer: PieceAnswer) -> InPieces {
+        match answer {
+            PieceAnswer::Refused(ending) if self.pieces == 0 => {
+                self.over(None, Came::Whole(refused(ending)))
+            }
+            PieceAnswer::Halted(record) => self.went_on(given, record),
+            PieceAnswer::Ended(logged, record) if is_told(record, logged) => {
+                self.over(Some(record), Came::Whole(logged))
+            }
+            _ => self.over(None, Came::Wrong),
+        }
     }
-}
 
-// One piece more.
-fn next(
-    run: InPieces,
-    cuts: Cuts,
-    handed: Handed,
-    numbers: &[f64],
-    words: &[u16],
-    work: &mut [f64],
-    cone_work: &mut [f64],
-    log: &mut [f64],
-) -> InPieces {
-    let steps = given(cuts, run.pieces, run.drawn);
-    let start = run.start;
-    let answer = runs::piece(start, handed, numbers, words, steps, work, cone_work, log);
-    after(run, steps, answer)
+    fn went_on(self, given: u32, record: RunRecord) -> InPieces {
+        let steps = self.steps.wrapping_add(given as u64);
+        if record.steps != steps || record.ended {
+            return self.over(None, Came::Wrong);
+        }
+        InPieces {
+            start: Some(record),
+            steps,
+            pieces: self.pieces.wrapping_add(1),
+            drawn: draw(self.drawn),
+            came: Came::Open,
+        }
+    }
+
+    // One piece more.
+    fn next(
+        self,
+        cuts: Cuts,
+        problem: Problem,
+        work: &mut [f64],
+        cone_work: &mut [f64],
+        log: &mut [f64],
+    ) -> InPieces {
+        let steps = given(cuts, self.pieces, self.drawn);
+        let answer = runs::piece(self.start, problem, steps, work, cone_work, log);
+        self.after(steps, answer)
+    }
 }
 
 // All pieces of a run.
 pub fn in_pieces(
     cuts: Cuts,
     seed: u64,
-    handed: Handed,
-    numbers: &[f64],
-    words: &[u16],
+    problem: Problem,
     work: &mut [f64],
     cone_work: &mut [f64],
     log: &mut [f64],
 ) -> InPieces {
-    let mut run = begun(seed);
+    let mut run = InPieces::begun(seed);
     for _ in 0..MOST_PIECES {
-        if !is_open(run) {
+        if !matches!(run.came, Came::Open) {
             return run;
         }
-        run = next(run, cuts, handed, numbers, words, work, cone_work, log);
+        run = run.next(cuts, problem, work, cone_work, log);
     }
     run
 }
 
 // Whether a run that was answered can't be taken up again: its record is stale, and all is kept.
 fn is_stale(
-    start: Start,
-    handed: Handed,
-    numbers: &[f64],
-    words: &[u16],
+    start: Option<RunRecord>,
+    problem: Problem,
     work: &mut [f64],
     cone_work: &mut [f64],
     log: &mut [f64],
 ) -> bool {
-    let answer = runs::piece(start, handed, numbers, words, 1, work, cone_work, log);
-    match answer {
-        PieceAnswer::StaleRun => true,
-        PieceAnswer::Refused(_) => true,
-        PieceAnswer::Halted(_) => false,
-        PieceAnswer::Ended(_, _) => false,
-    }
+    let answer = runs::piece(start, problem, 1, work, cone_work, log);
+    matches!(answer, PieceAnswer::StaleRun | PieceAnswer::Refused(_))
 }
 
 // Every place of the buffers holds what it held before.
 fn refill(before: f64, log_before: f64, work: &mut [f64], cone_work: &mut [f64], log: &mut [f64]) {
-    same::fill(work, before);
-    same::fill(cone_work, before);
-    same::fill(log, log_before);
+    work.fill(before);
+    cone_work.fill(before);
+    log.fill(log_before);
 }
 
 // The uncut run, from buffers that hold what they held before.
 pub fn run_uncut(
-    handed: Handed,
+    problem: Problem,
     before: f64,
     log_before: f64,
-    numbers: &[f64],
-    words: &[u16],
     work: &mut [f64],
     cone_work: &mut [f64],
     log: &mut [f64],
 ) -> Logged {
     refill(before, log_before, work, cone_work, log);
-    runs::uncut(handed, numbers, words, work, cone_work, log)
+    problem.solve_logged(work, cone_work, log)
 }
 
 // Whether a run in pieces was answered as the uncut one.
 fn is_answered(run: InPieces, uncut: Uncut) -> bool {
-    let came = run.came;
-    match came {
-        Came::Open => false,
+    match run.came {
         Came::Whole(logged) => same::same_answer(logged, uncut.logged),
-        Came::Wrong => false,
+        Came::Open | Came::Wrong => false,
     }
 }
 
-fn told(answered: bool, stale: bool, left_so: bool, pieces: u64) -> u64 {
-    if answered && stale && left_so {
-        pieces
-    } else {
-        0
-    }
-}
-
-// Has a run in pieces and holds it to the uncut one, which left the buffers so: the number of its pieces, or 0 where it differs.
+// Has a run in pieces and holds it to the uncut one, which left the buffers so: the number of its pieces, or none where it differs.
 pub fn held(
     cuts: Cuts,
     seed: u64,
@@ -262,13 +223,12 @@ pub fn held(
     work: &mut [f64],
     cone_work: &mut [f64],
     log: &mut [f64],
-) -> u64 {
+) -> Option<u64> {
     refill(uncut.before, uncut.log_before, work, cone_work, log);
-    let handed = uncut.handed;
-    let run = in_pieces(cuts, seed, handed, numbers, words, work, cone_work, log);
-    let start = run.start;
+    let problem = uncut.handed.problem(numbers, words);
+    let run = in_pieces(cuts, seed, problem, work, cone_work, log);
     let answered = is_answered(run, uncut);
-    let stale = is_stale(start, handed, numbers, words, work, cone_work, log);
+    let stale = is_stale(run.start, problem, work, cone_work, log);
     let left_so = same::are_left(left, work, cone_work, log);
-    told(answered, stale, left_so, run.pieces)
+    (answered && stale && left_so).then_some(run.pieces)
 }

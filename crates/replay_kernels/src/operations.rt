@@ -1,207 +1,281 @@
 // The operations of the list, by their numbers: whether a record's answer is this repository's too.
-ghost use Rattle.std.specs.Prelude.{◌≤◌};
-
 use replay::{record, room};
 use replay_routines::routines;
-use replay_routines::routines::Routine;
 use rules::{Cols, MatType, Rows};
 
 #[derive(Clone, Copy)]
-pub enum Found {
-    Agrees,
-    Differs,
-    Unknown,
+pub enum Operation {
+    Norm,
+    Copy,
+    Scale,
+    Add,
+    Adds,
+    Abssum,
+    TransformDi,
+    TransformGe,
+    TransformSp,
+    Op,
+    TransOp,
+    AbsaddCols,
+    AbsaddRows,
+    Larger,
+    Smaller,
+    Magnitude,
+    Reciprocal,
 }
 
-pub fn replay(operation: u64, record: &[u8]) -> Found {
-    match operation {
-        1..=7 => told(vector(operation, record)),
-        8 | 10..=13 => told(matrix(operation, record)),
-        9 => told(transform_sp(record)),
-        20..=23 => told(helper(operation, record)),
-        _ => Found::Unknown,
+impl TryFrom<u64> for Operation {
+    type Error = ();
+
+    fn try_from(number: u64) -> Result<Operation, ()> {
+        match number {
+            1 => Ok(Operation::Norm),
+            2 => Ok(Operation::Copy),
+            3 => Ok(Operation::Scale),
+            4 => Ok(Operation::Add),
+            5 => Ok(Operation::Adds),
+            6 => Ok(Operation::Abssum),
+            7 => Ok(Operation::TransformDi),
+            8 => Ok(Operation::TransformGe),
+            9 => Ok(Operation::TransformSp),
+            10 => Ok(Operation::Op),
+            11 => Ok(Operation::TransOp),
+            12 => Ok(Operation::AbsaddCols),
+            13 => Ok(Operation::AbsaddRows),
+            20 => Ok(Operation::Larger),
+            21 => Ok(Operation::Smaller),
+            22 => Ok(Operation::Magnitude),
+            23 => Ok(Operation::Reciprocal),
+            _ => Err(()),
+        }
     }
 }
 
-fn told(agrees: bool) -> Found {
-    if agrees {
-        Found::Agrees
-    } else {
-        Found::Differs
+impl Operation {
+    pub fn name(self) -> &'static str {
+        match self {
+            Operation::Norm => "norm",
+            Operation::Copy => "copy",
+            Operation::Scale => "scale",
+            Operation::Add => "add",
+            Operation::Adds => "adds",
+            Operation::Abssum => "abssum",
+            Operation::TransformDi => "transform_di",
+            Operation::TransformGe => "transform_ge",
+            Operation::TransformSp => "transform_sp",
+            Operation::Op => "op",
+            Operation::TransOp => "trans_op",
+            Operation::AbsaddCols => "absadd_cols",
+            Operation::AbsaddRows => "absadd_rows",
+            Operation::Larger => "larger",
+            Operation::Smaller => "smaller",
+            Operation::Magnitude => "magnitude",
+            Operation::Reciprocal => "reciprocal",
+        }
     }
-}
 
-// The operations on vectors.
-fn vector(operation: u64, record: &[u8]) -> bool {
-    match operation {
-        1 => norm(record),
-        2 => copy(record),
-        3 | 5 => scale_or_adds(operation, record),
-        4 => add(record),
-        6 => abssum(record),
-        7 => transform_di(record),
-        _ => false,
+    pub fn agrees(self, record: &[u8]) -> bool {
+        match self {
+            Operation::Norm => norm(record),
+            Operation::Copy => copy(record),
+            Operation::Scale => changes(record, linalg::scale),
+            Operation::Add => add(record),
+            Operation::Adds => changes(record, linalg::adds),
+            Operation::Abssum => abssum(record),
+            Operation::TransformDi => transform_di(record),
+            Operation::TransformGe => transform_ge(record),
+            Operation::TransformSp => transform_sp(record),
+            Operation::Op => op(record),
+            Operation::TransOp => trans_op(record),
+            Operation::AbsaddCols => absadd_cols(record),
+            Operation::AbsaddRows => absadd_rows(record),
+            Operation::Larger => of_two(record, float::larger),
+            Operation::Smaller => of_two(record, float::smaller),
+            Operation::Magnitude => of_one(record, float::magnitude),
+            Operation::Reciprocal => of_one(record, float::reciprocal),
+        }
     }
 }
 
 fn norm(record: &[u8]) -> bool {
     let n = record::size(record, 0);
-    if n > room::ROOM {
-        return false;
-    }
-    if record::words(record) != n + 2 {
+    if n > room::ROOM || record::words(record) != n + 2 {
         return false;
     }
     let x = room::numbers(record, 1, n);
-    record::holds_one(record, n + 1, sums::norm(&x[0..n]))
+    record::holds_one(record, n + 1, sums::norm(&x[..n]))
 }
 
 fn copy(record: &[u8]) -> bool {
-    routines::agrees(Routine::Copy, record, 1, 0, record::size(record, 0))
+    let n = record::size(record, 0);
+    routines::agrees(|x, _, y| linalg::copy(x, y), record, 1, 0, n)
 }
 
 fn add(record: &[u8]) -> bool {
-    let routine = Routine::Add(record::number(record, 1));
-    routines::agrees(routine, record, 2, 0, record::size(record, 0))
+    let n = record::size(record, 0);
+    let alpha = record::number(record, 1);
+    routines::agrees(|x, _, y| linalg::add(alpha, x, y), record, 2, 0, n)
 }
 
-// Scale and adds, which change one vector by a number.
-fn scale_or_adds(operation: u64, record: &[u8]) -> bool {
+// Whether a routine that changes a vector by a number makes of it what the record holds.
+fn changes<F: FnOnce(f64, &mut [f64])>(record: &[u8], change: F) -> bool
+    requires { F.IsAlwaysCallable change }
+{
     let n = record::size(record, 0);
-    if n > room::ROOM {
-        return false;
-    }
-    if record::words(record) != 2 * n + 2 {
+    if n > room::ROOM || record::words(record) != 2 * n + 2 {
         return false;
     }
     let mut y = room::numbers(record, 2, n);
-    changes(operation, record, n + 2, &mut y[0..n])
-}
-
-// Whether the vector becomes what the record holds from a place on.
-fn changes(operation: u64, record: &[u8], at: usize, y: &mut [f64]) -> bool {
-    let number = record::number(record, 1);
-    if operation == 3 {
-        linalg::scale(number, y);
-        return record::holds(record, at, y);
-    }
-    linalg::adds(number, y);
-    record::holds(record, at, y)
+    change(record::number(record, 1), &mut y[..n]);
+    record::holds(record, n + 2, &y[..n])
 }
 
 fn abssum(record: &[u8]) -> bool {
     let n = record::size(record, 0);
-    if n > room::ROOM {
-        return false;
-    }
-    if record::words(record) != n + 3 {
+    if n > room::ROOM || record::words(record) != n + 3 {
         return false;
     }
     let x = room::numbers(record, 2, n);
-    record::holds_one(
-        record,
-        n + 2,
-        sums::abssum(&x[0..n], record::size(record, 1)),
-    )
+    let sum = sums::abssum(&x[..n], record::size(record, 1));
+    record::holds_one(record, n + 2, sum)
 }
 
 fn transform_di(record: &[u8]) -> bool {
     let n = record::size(record, 0);
-    let routine = Routine::TransformDi(record::number(record, 1), record::number(record, 2));
-    routines::agrees(routine, record, 3, n, n)
+    let alpha = record::number(record, 1);
+    let beta = record::number(record, 2);
+    routines::agrees(
+        |mat, x, y| linalg::transform_di(alpha, mat, x, beta, y),
+        record,
+        3,
+        n,
+        n,
+    )
 }
 
 fn transform_sp(record: &[u8]) -> bool {
     let n = record::size(record, 0);
-    let routine = Routine::TransformSp(
-        Rows(n),
-        record::number(record, 1),
-        record::number(record, 2),
-    );
-    routines::agrees(routine, record, 3, n, n)
+    let alpha = record::number(record, 1);
+    let beta = record::number(record, 2);
+    routines::agrees(
+        |mat, x, y| packed_transform::transform_sp(Rows(n), alpha, mat, x, beta, y),
+        record,
+        3,
+        n,
+        n,
+    )
 }
 
-// The operations whose sizes are a flag, rows and columns. For 8 the flag says whether the matrix is
-// transposed, for the others whether it is packed.
-fn matrix(operation: u64, record: &[u8]) -> bool {
-    let flag = record::word(record, 0);
-    if flag > 1 {
+// Rows and columns, which stand after a flag.
+fn sizes(record: &[u8]) -> (usize, usize) {
+    (record::size(record, 1), record::size(record, 2))
+}
+
+// The flag says whether the matrix is transposed.
+fn transform_ge(record: &[u8]) -> bool {
+    let (rows, cols) = sizes(record);
+    let Some(transpose) = record::flag(record, 0) else {
         return false;
-    }
-    let rows = record::size(record, 1);
-    let cols = record::size(record, 2);
-    if operation == 8 {
-        return transform_ge(record, flag == 1, rows, cols);
-    }
-    if flag == 1 {
-        if rows != cols {
-            return false;
-        }
-        return operator(operation, record, MatType::SymPack(Rows(rows)), rows, cols);
-    }
-    operator(
-        operation,
+    };
+    let (width, height) = if transpose {
+        (rows, cols)
+    } else {
+        (cols, rows)
+    };
+    let alpha = record::number(record, 3);
+    let beta = record::number(record, 4);
+    routines::agrees(
+        |mat, x, y| {
+            transform::transform_ge(transpose, Rows(rows), Cols(cols), alpha, mat, x, beta, y)
+        },
         record,
-        MatType::General(Rows(rows), Cols(cols)),
+        5,
+        width,
+        height,
+    )
+}
+
+// The flag says whether the matrix is packed, and then it is a square.
+fn mat_type(record: &[u8]) -> Option<MatType> {
+    let (rows, cols) = sizes(record);
+    let packed = record::flag(record, 0)?;
+    if !packed {
+        return Some(MatType::General(Rows(rows), Cols(cols)));
+    }
+    (rows == cols).then_some(MatType::SymPack(Rows(rows)))
+}
+
+fn op(record: &[u8]) -> bool {
+    let Some(t) = mat_type(record) else {
+        return false;
+    };
+    let (rows, cols) = sizes(record);
+    let alpha = record::number(record, 3);
+    let beta = record::number(record, 4);
+    routines::agrees(
+        |mat, x, y| matop::op(t, alpha, mat, x, beta, y),
+        record,
+        5,
+        cols,
+        rows,
+    )
+}
+
+fn trans_op(record: &[u8]) -> bool {
+    let Some(t) = mat_type(record) else {
+        return false;
+    };
+    let (rows, cols) = sizes(record);
+    let alpha = record::number(record, 3);
+    let beta = record::number(record, 4);
+    routines::agrees(
+        |mat, x, y| matop::trans_op(t, alpha, mat, x, beta, y),
+        record,
+        5,
         rows,
         cols,
     )
 }
 
-fn transform_ge(record: &[u8], transpose: bool, rows: usize, cols: usize) -> bool {
-    let routine = Routine::TransformGe(
-        transpose,
-        Rows(rows),
-        Cols(cols),
-        record::number(record, 3),
-        record::number(record, 4),
-    );
-    if transpose {
-        routines::agrees(routine, record, 5, rows, cols)
-    } else {
-        routines::agrees(routine, record, 5, cols, rows)
-    }
-}
-
-fn operator(operation: u64, record: &[u8], t: MatType, rows: usize, cols: usize) -> bool {
-    match operation {
-        10 => op(record, t, rows, cols),
-        11 => trans_op(record, t, rows, cols),
-        12 => routines::agrees(Routine::AbsaddCols(t), record, 3, 0, cols),
-        13 => routines::agrees(Routine::AbsaddRows(t), record, 3, 0, rows),
-        _ => false,
-    }
-}
-
-fn op(record: &[u8], t: MatType, rows: usize, cols: usize) -> bool {
-    let routine = Routine::Op(t, record::number(record, 3), record::number(record, 4));
-    routines::agrees(routine, record, 5, cols, rows)
-}
-
-fn trans_op(record: &[u8], t: MatType, rows: usize, cols: usize) -> bool {
-    let routine = Routine::TransOp(t, record::number(record, 3), record::number(record, 4));
-    routines::agrees(routine, record, 5, rows, cols)
-}
-
-// The operations on one or two numbers.
-fn helper(operation: u64, record: &[u8]) -> bool {
-    let a = record::number(record, 0);
-    let b = record::number(record, 1);
-    match operation {
-        20 => is_last(record, 2, float::larger(a, b)),
-        21 => is_last(record, 2, float::smaller(a, b)),
-        22 => is_last(record, 1, float::magnitude(a)),
-        23 => is_last(record, 1, float::reciprocal(a)),
-        _ => false,
-    }
-}
-
-// Whether a number is what the record holds after so many words, and nothing follows.
-fn is_last(record: &[u8], at: usize, number: f64) -> bool
-    requires { at ≤ 2 }
-{
-    if record::words(record) != at + 1 {
+fn absadd_cols(record: &[u8]) -> bool {
+    let Some(t) = mat_type(record) else {
         return false;
-    }
-    record::holds_one(record, at, number)
+    };
+    let (_, cols) = sizes(record);
+    routines::agrees(
+        |mat, _, y| absadd::absadd_cols(t, mat, y),
+        record,
+        3,
+        0,
+        cols,
+    )
+}
+
+fn absadd_rows(record: &[u8]) -> bool {
+    let Some(t) = mat_type(record) else {
+        return false;
+    };
+    let (rows, _) = sizes(record);
+    routines::agrees(
+        |mat, _, y| absadd::absadd_rows(t, mat, y),
+        record,
+        3,
+        0,
+        rows,
+    )
+}
+
+// Whether a helper makes of the first number the one that the record holds after it.
+fn of_one<F: FnOnce(f64) -> f64>(record: &[u8], helper: F) -> bool
+    requires { F.IsAlwaysCallable helper }
+{
+    let made = helper(record::number(record, 0));
+    record::words(record) == 2 && record::holds_one(record, 1, made)
+}
+
+fn of_two<F: FnOnce(f64, f64) -> f64>(record: &[u8], helper: F) -> bool
+    requires { F.IsAlwaysCallable helper }
+{
+    let made = helper(record::number(record, 0), record::number(record, 1));
+    record::words(record) == 3 && record::holds_one(record, 2, made)
 }

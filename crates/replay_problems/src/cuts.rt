@@ -1,35 +1,39 @@
-// The ways in which a dense matrix is cut in two.
+// The ways in which a dense matrix is cut in two. They are numbers, since what is had in each is counted by its number.
 ghost use Rattle.std.specs.Prelude.{◌≡◌, ◌%◌};
 ghost use Rattle.replay_problems.specs.Cuts.{ways, columns_first};
 
 // How many there are.
-const WAYS: u64 = 5;
+pub const WAYS: usize = 5;
 
 // The way whose turn it is after so many records.
 pub fn next(records: u64) -> usize
     ensures { result ≡ records % ways }
 {
-    (records % WAYS) as usize
+    records as usize % WAYS
 }
 
 // How many of n columns stand in the first slice.
+#[tactic(auto, unfolding(crate::specs::Cuts::columns_first))]
 pub fn first(way: usize, n: usize) -> usize
     ensures { result ≡ columns_first way n }
 {
-    if n == 0 {
-        return 0;
+    match way {
+        0 => 0,
+        1 => n.min(1),
+        2 => n / 2,
+        3 => n.saturating_sub(1),
+        _ => n,
     }
-    if way == 0 {
-        return 0;
+}
+
+// The name of a way.
+pub fn name(way: usize) -> Option<&'static str> {
+    match way {
+        0 => Some("cut before the first column"),
+        1 => Some("cut after the first column"),
+        2 => Some("cut in the middle"),
+        3 => Some("cut before the last column"),
+        4 => Some("cut after the last column"),
+        _ => None,
     }
-    if way == 1 {
-        return 1;
-    }
-    if way == 2 {
-        return n / 2;
-    }
-    if way == 3 {
-        return n - 1;
-    }
-    n
 }

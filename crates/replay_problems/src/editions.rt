@@ -5,12 +5,9 @@ ghost use Rattle.replay_problems.specs.Editions.{edition_of};
 use replay::record;
 
 // The edition; what is too large for one counts as 0, which is none.
+#[tactic(auto, unfolding(crate::specs::Editions::edition_of))]
 pub fn edition(record: &[u8]) -> u32
     ensures { result ≡ edition_of «record».now }
 {
-    let edition = record::word(record, 0);
-    if edition < 4294967296 {
-        return edition as u32;
-    }
-    0
+    u32::try_from(record::word(record, 0)).unwrap_or(0)
 }

@@ -4,5 +4,6 @@
 pub mod cuts;
 pub mod editions;
 pub mod logs;
+pub mod problem;
 pub mod room;
 pub mod runs;

@@ -4,21 +4,18 @@ ghost use Rattle.std.specs.Prelude.{◌≡◌};
 ghost use Rattle.replay.specs.Records.{word_of, number_of};
 ghost use Rattle.replay_problems.specs.Logs.{period_of};
 
-use crate::room;
+use crate::room::Vectors;
 use replay::record;
 
 // The number of an answer after which both buffers are left out of a record, since all their places are +0.
 const CONE_FAILURE: u64 = 12;
 
 // The period; what is too large for one counts as none.
+#[tactic(auto, unfolding(crate::specs::Logs::period_of))]
 pub fn period(log: &[u8]) -> u32
     ensures { result ≡ period_of log.now }
 {
-    let period = record::word(log, 0);
-    if period < 4294967296 {
-        return period as u32;
-    }
-    0
+    u32::try_from(record::word(log, 0)).unwrap_or(0)
 }
 
 // How many places are lent.
@@ -51,20 +48,16 @@ pub fn dropped(log: &[u8]) -> u64
 // How many words of a record are the run's: those up to the end of its answer.
 pub fn run_words(record: &[u8]) -> usize {
     let answer_at = answer_at(record);
+    let left_at = answer_at.wrapping_add(8);
     if record::word(record, answer_at) == CONE_FAILURE {
-        return std::num::wrapping_add_usize(answer_at, 8);
+        return left_at;
     }
-    let work = record::size(record, std::num::wrapping_add_usize(answer_at, 6));
-    let cone_work = record::size(record, std::num::wrapping_add_usize(answer_at, 7));
-    let left = std::num::wrapping_add_usize(work, cone_work);
-    std::num::wrapping_add_usize(std::num::wrapping_add_usize(answer_at, 8), left)
+    let work = record::size(record, answer_at.wrapping_add(6));
+    let cone_work = record::size(record, answer_at.wrapping_add(7));
+    left_at.wrapping_add(work.wrapping_add(cone_work))
 }
 
 // Where a record's answer starts: after the problem and what is lent.
 pub fn answer_at(record: &[u8]) -> usize {
-    let blocks = record::size(record, 8);
-    let c = room::vector_at(record, std::num::wrapping_add_usize(blocks, 9));
-    let a = room::vector_at(record, room::after(c));
-    let b = room::vector_at(record, room::after(a));
-    std::num::wrapping_add_usize(room::after(b), 3)
+    Vectors::of(record).after().wrapping_add(3)
 }

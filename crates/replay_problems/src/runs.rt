@@ -1,18 +1,18 @@
 // A record's problem, run and compared.
-ghost use Rattle.std.specs.Prelude.{◌≡◌, ◌==◌};
+ghost use Rattle.std.specs.Prelude.{◌≡◌, ◌==◌, ◌≤◌};
 ghost use Rattle.replay.specs.Records.{word_of};
 
-use crate::room::Vector;
+use crate::problem::{Matrix, Problem};
+use crate::room::Vectors;
 use crate::{logs, room};
 use replay::record;
-use rules::{Answer, Cols, Logged, Rows, SolverParam, Storage};
+use rules::{Answer, Cols, Rows, SolverParam, Storage};
 
 // The answer's number in the list, and whether it is had here.
 #[derive(Clone, Copy)]
-pub enum Found {
-    Agrees(usize),
-    Differs(usize),
-    Unknown,
+pub struct Found {
+    pub number: usize,
+    pub agrees: bool,
 }
 
 // How A is handed over: in one slice; in two, with so many columns in the first; or one slice, which holds half of its columns, for both halves.
@@ -23,63 +23,58 @@ pub enum Cut {
     Twice,
 }
 
-// The place of the number of cone words.
-const BLOCKS_AT: usize = 8;
-
-// Runs a record's problem and compares. The original ran it over the whole matrix, so a record says what comes of any cut.
-pub fn replay(record: &[u8], cut: Cut, a_room: &mut [f64]) -> Found {
-    replay_with(record, &record[0..0], parameters(record), cut, a_room)
+// Runs a record's problem and compares; none where there is no room for it. The original ran it over the whole matrix, so a record says what comes of any cut.
+pub fn replay(record: &[u8], cut: Cut, a_room: &mut [f64]) -> Option<Found> {
+    replay_with(record, &[], parameters(record), cut, a_room)
 }
 
 // The same in an edition of sums.
-pub fn replay_in(record: &[u8], edition: u32, cut: Cut, a_room: &mut [f64]) -> Found {
-    let par = SolverParam::with_edition(parameters(record), edition);
-    replay_with(record, &record[0..0], par, cut, a_room)
+pub fn replay_in(record: &[u8], edition: u32, cut: Cut, a_room: &mut [f64]) -> Option<Found> {
+    let par = parameters(record).with_edition(edition);
+    replay_with(record, &[], par, cut, a_room)
 }
 
 // The same with a progress record, of which the words after those of the run tell. Where there are none it is run without one.
-pub fn replay_logged(record: &[u8], log: &[u8], cut: Cut, a_room: &mut [f64]) -> Found {
-    let par = SolverParam::with_log_period(parameters(record), logs::period(log));
+pub fn replay_logged(record: &[u8], log: &[u8], cut: Cut, a_room: &mut [f64]) -> Option<Found> {
+    let par = parameters(record).with_log_period(logs::period(log));
     replay_with(record, log, par, cut, a_room)
 }
 
-fn replay_with(record: &[u8], log: &[u8], par: SolverParam, cut: Cut, a_room: &mut [f64]) -> Found {
-    let blocks = record::size(record, BLOCKS_AT);
-    if blocks > room::WORD_ROOM {
-        return Found::Unknown;
+fn replay_with(
+    record: &[u8],
+    log: &[u8],
+    par: SolverParam,
+    cut: Cut,
+    a_room: &mut [f64],
+) -> Option<Found> {
+    let blocks = room::blocks(record);
+    let vectors = Vectors::of(record);
+    let a_length = vectors.a.length;
+    if blocks > room::WORD_ROOM || a_length > a_room.len() {
+        return None;
     }
-    let words = room::cone_words(record, BLOCKS_AT + 1, blocks);
-    let c = room::vector_at(record, BLOCKS_AT + 1 + blocks);
-    let a = room::vector_at(record, room::after(c));
-    let b = room::vector_at(record, room::after(a));
-    let a_length = a.length;
-    if a_length > a_room.len() {
-        return Found::Unknown;
-    }
-    let lent_at = room::after(b);
+    let words = room::cone_words(record);
     let agrees = takes(
         record,
         log,
         par,
         cut,
-        lent_at,
-        c,
-        a,
-        b,
-        &words[0..blocks],
-        &mut a_room[0..a_length],
+        vectors,
+        &words[..blocks],
+        &mut a_room[..a_length],
     );
-    told(
+    Some(Found {
+        number: record::size(record, vectors.after().wrapping_add(3)),
         agrees,
-        record::size(record, std::num::wrapping_add_usize(lent_at, 3)),
-    )
+    })
 }
 
-fn told(agrees: bool, number: usize) -> Found {
-    if agrees {
-        Found::Agrees(number)
+// How a record's matrix stands there: whole, or half of it, for both halves.
+pub fn as_it_stands(record: &[u8]) -> Cut {
+    if is_half(record) {
+        Cut::Twice
     } else {
-        Found::Differs(number)
+        Cut::Whole
     }
 }
 
@@ -105,125 +100,99 @@ pub fn columns(record: &[u8]) -> usize
 }
 
 // How many numbers of A stand in the first slice: all, where it has no more than the cut asks.
-fn in_first(record: &[u8], cut: Cut, length: usize) -> usize {
-    let rows = record::size(record, 7);
+fn in_first(record: &[u8], cut: Cut, length: usize) -> usize
+    ensures { result ≤ length }
+{
     match cut {
-        Cut::Whole => length,
-        Cut::Twice => length,
+        Cut::Whole | Cut::Twice => length,
         Cut::After(first) => {
-            if rows > room::ROOM {
-                return length;
-            }
-            if first > room::ROOM {
-                return length;
-            }
-            let asked = rows * first;
-            if asked < length { asked } else { length }
+            let rows = record::size(record, 7);
+            rows.checked_mul(first)
+                .map_or(length, |asked| asked.min(length))
         }
     }
 }
 
-// Takes the vectors out of the record. The second slice is put before the first, so that the two don't stand in the matrix's order.
+// Takes A out of the record. The second slice is put before the first, so that the two don't stand in the matrix's order.
 fn takes(
     record: &[u8],
     log: &[u8],
     par: SolverParam,
     cut: Cut,
-    lent_at: usize,
-    c: Vector,
-    a: Vector,
-    b: Vector,
+    vectors: Vectors,
     words: &[u16],
     a_numbers: &mut [f64],
 ) -> bool {
-    let length = a_numbers.len();
-    let first = in_first(record, cut, length);
-    if first > length {
-        return false;
-    }
-    let rest = length - first;
-    let from = first_again(a, first);
-    room::fill(record, a, from, &mut a_numbers[0..rest]);
+    let a = vectors.a;
+    let first = in_first(record, cut, a_numbers.len());
+    let rest = a_numbers.len() - first;
+    room::fill(record, a, a.place(first), &mut a_numbers[..rest]);
     room::fill(record, a, 0, &mut a_numbers[rest..]);
-    let c_length = c.length;
-    let b_length = b.length;
-    if c_length > room::ROOM {
-        return false;
-    }
-    if b_length > room::ROOM {
-        return false;
-    }
-    let c_numbers = room::numbers(record, c);
-    let b_numbers = room::numbers(record, b);
-    lends(
-        record,
-        log,
-        par,
-        cut,
-        lent_at,
-        &c_numbers[0..c_length],
-        a_numbers,
-        rest,
-        &b_numbers[0..b_length],
-        words,
-    )
+    takes_others(record, log, par, cut, vectors, words, a_numbers, rest)
 }
 
-// The place, among the numbers given, of number k of a vector that has them over and over.
-fn first_again(v: Vector, k: usize) -> usize {
-    if v.given == 0 {
-        return 0;
-    }
-    k % v.given
-}
-
-// Lends buffers, all of whose places hold one number before.
-fn lends(
+// Takes c and b.
+fn takes_others(
     record: &[u8],
     log: &[u8],
     par: SolverParam,
     cut: Cut,
-    lent_at: usize,
-    c: &[f64],
-    a: &[f64],
-    rest: usize,
-    b: &[f64],
+    vectors: Vectors,
     words: &[u16],
+    a_numbers: &[f64],
+    rest: usize,
 ) -> bool {
-    if rest > a.len() {
+    let Vectors { c, b, .. } = vectors;
+    if c.length > room::ROOM || b.length > room::ROOM || rest > a_numbers.len() {
         return false;
     }
+    let c_numbers = room::numbers(record, c);
+    let b_numbers = room::numbers(record, b);
+    let cols = Cols(columns(record));
+    let problem = Problem {
+        par,
+        rows: Rows(record::size(record, 7)),
+        cols,
+        c: &c_numbers[..c.length],
+        a: matrix(record, cut, cols, &a_numbers[rest..], &a_numbers[..rest]),
+        b: &b_numbers[..b.length],
+        words,
+    };
+    lends(record, log, problem, vectors.after())
+}
+
+fn matrix<'a>(record: &[u8], cut: Cut, cols: Cols, a1: &'a [f64], a2: &'a [f64]) -> Matrix<'a> {
+    match cut {
+        Cut::Whole => Matrix::Whole(storage(record), a1),
+        Cut::After(first) => Matrix::Split(Cols(first), a1, a2),
+        Cut::Twice => Matrix::Split(Cols(cols.0 / 2), a1, a1),
+    }
+}
+
+// Lends buffers, all of whose places hold one number before.
+fn lends(record: &[u8], log: &[u8], problem: Problem, lent_at: usize) -> bool {
     let work_length = record::size(record, lent_at);
-    let cone_length = record::size(record, std::num::wrapping_add_usize(lent_at, 1));
-    if work_length > room::WORK_ROOM {
-        return false;
-    }
-    if cone_length > room::CONE_ROOM {
-        return false;
-    }
+    let cone_length = record::size(record, lent_at.wrapping_add(1));
     let log_length = logs::places(log);
-    if log_length > room::LOG_ROOM {
+    if work_length > room::WORK_ROOM
+        || cone_length > room::CONE_ROOM
+        || log_length > room::LOG_ROOM
+    {
         return false;
     }
-    let before = record::number(record, std::num::wrapping_add_usize(lent_at, 2));
+    let before = record::number(record, lent_at.wrapping_add(2));
     let mut work = [before; room::WORK_ROOM];
     let mut cone_work = [before; room::CONE_ROOM];
     let mut lent_log = [logs::before(log); room::LOG_ROOM];
     agrees(
         record,
         log,
-        par,
-        cut,
-        std::num::wrapping_add_usize(lent_at, 3),
+        problem,
+        lent_at.wrapping_add(3),
         patterns::pattern_of(before),
-        c,
-        &a[rest..],
-        &a[0..rest],
-        b,
-        words,
-        &mut work[0..work_length],
-        &mut cone_work[0..cone_length],
-        &mut lent_log[0..log_length],
+        &mut work[..work_length],
+        &mut cone_work[..cone_length],
+        &mut lent_log[..log_length],
     )
 }
 
@@ -246,164 +215,24 @@ pub fn storage(record: &[u8]) -> Storage {
     }
 }
 
-// Runs the problem, its matrix cut or whole.
-fn run<'a>(
-    record: &[u8],
-    par: SolverParam,
-    cut: Cut,
-    c: &[f64],
-    a1: &'a [f64],
-    a2: &'a [f64],
-    b: &[f64],
-    words: &[u16],
-    work: &mut [f64],
-    cone_work: &mut [f64],
-) -> Answer {
-    let rows = Rows(record::size(record, 7));
-    let cols = Cols(record::size(record, 6));
-    match cut {
-        Cut::Whole => {
-            solver::solve(
-                par,
-                rows,
-                cols,
-                storage(record),
-                c,
-                a1,
-                b,
-                words,
-                work,
-                cone_work,
-            )
-        }
-        Cut::After(first) => {
-            solver::solve_split(
-                par,
-                rows,
-                cols,
-                Cols(first),
-                c,
-                a1,
-                a2,
-                b,
-                words,
-                work,
-                cone_work,
-            )
-        }
-        Cut::Twice => {
-            solver::solve_split(
-                par,
-                rows,
-                cols,
-                Cols(cols.0 / 2),
-                c,
-                a1,
-                a1,
-                b,
-                words,
-                work,
-                cone_work,
-            )
-        }
-    }
-}
-
-// The same with a progress record.
-fn run_logged<'a>(
-    record: &[u8],
-    par: SolverParam,
-    cut: Cut,
-    c: &[f64],
-    a1: &'a [f64],
-    a2: &'a [f64],
-    b: &[f64],
-    words: &[u16],
-    work: &mut [f64],
-    cone_work: &mut [f64],
-    log: &mut [f64],
-) -> Logged {
-    let rows = Rows(record::size(record, 7));
-    let cols = Cols(record::size(record, 6));
-    match cut {
-        Cut::Whole => {
-            solver::solve_logged(
-                par,
-                rows,
-                cols,
-                storage(record),
-                c,
-                a1,
-                b,
-                words,
-                work,
-                cone_work,
-                log,
-            )
-        }
-        Cut::After(first) => {
-            solver::solve_split_logged(
-                par,
-                rows,
-                cols,
-                Cols(first),
-                c,
-                a1,
-                a2,
-                b,
-                words,
-                work,
-                cone_work,
-                log,
-            )
-        }
-        Cut::Twice => {
-            solver::solve_split_logged(
-                par,
-                rows,
-                cols,
-                Cols(cols.0 / 2),
-                c,
-                a1,
-                a1,
-                b,
-                words,
-                work,
-                cone_work,
-                log,
-            )
-        }
-    }
-}
-
 // Runs the problem, with a log where there is one, and compares what is answered and left with what the record holds from a place on.
-fn agrees<'a>(
+fn agrees(
     record: &[u8],
     log: &[u8],
-    par: SolverParam,
-    cut: Cut,
+    problem: Problem,
     answer_at: usize,
     before: u64,
-    c: &[f64],
-    a1: &'a [f64],
-    a2: &'a [f64],
-    b: &[f64],
-    words: &[u16],
     work: &mut [f64],
     cone_work: &mut [f64],
     lent_log: &mut [f64],
 ) -> bool {
-    if log.len() == 0 {
-        let answer = run(record, par, cut, c, a1, a2, b, words, work, cone_work);
+    if log.is_empty() {
+        let answer = problem.solve(work, cone_work);
         return is_answered(record, answer_at, before, answer, work, cone_work);
     }
-    let logged = run_logged(
-        record, par, cut, c, a1, a2, b, words, work, cone_work, lent_log,
-    );
-    if !replay_answers::is_logged(log, logged.written, logged.dropped, lent_log) {
-        return false;
-    }
-    is_answered(record, answer_at, before, logged.answer, work, cone_work)
+    let logged = problem.solve_logged(work, cone_work, lent_log);
+    replay_answers::is_logged(log, logged.written, logged.dropped, lent_log)
+        && is_answered(record, answer_at, before, logged.answer, work, cone_work)
 }
 
 // Whether this is what the record holds from a place on.
@@ -415,14 +244,12 @@ fn is_answered(
     work: &[f64],
     cone_work: &[f64],
 ) -> bool {
-    let rows = Rows(record::size(record, 7));
-    let cols = Cols(record::size(record, 6));
-    let ending = answer.ending;
-    if !replay_answers::is_told(record, answer_at, ending, answer.steps, answer.rotations) {
-        return false;
-    }
-    if !replay_answers::is_left(record, answer_at, before, work, cone_work) {
-        return false;
-    }
-    replay_answers::has_parts(work, rows, cols)
+    let Answer {
+        ending,
+        steps,
+        rotations,
+    } = answer;
+    replay_answers::is_told(record, answer_at, ending, steps, rotations)
+        && replay_answers::is_left(record, answer_at, before, work, cone_work)
+        && replay_answers::has_parts(work, Rows(record::size(record, 7)), Cols(columns(record)))
 }

@@ -3,57 +3,41 @@
 // by root::root and held to the list.
 #![tactic(auto)]
 
+use std::io;
 use std::io::Read;
+use tally::{Counts, Tally};
 
-#[derive(Clone, Copy)]
-struct Tally {
-    agree: u64,
-    differ: u64,
+// Whether the next record's root is had here too.
+fn agrees<R: Read>(input: &mut R) -> io::Result<bool> {
+    let x = patterns::number_of(lines::read_word(input)?);
+    let root = lines::read_word(input)?;
+    Ok(patterns::pattern_of(root::root(x)) == root)
 }
 
-#[derive(Clone, Copy)]
-enum Found {
-    Agrees,
-    Differs,
-    Missing,
-}
-
-fn replay_one<R: Read>(input: &mut R) -> Found {
-    let mut record = [0u8; 16];
-    if !lines::read(input, &mut record, 16) {
-        return Found::Missing;
-    }
-    let x = patterns::number_of(patterns::word_at(&record, 0));
-    let root = patterns::pattern_of(root::root(x));
-    if root == patterns::word_at(&record, 8) {
-        Found::Agrees
-    } else {
-        Found::Differs
-    }
-}
-
-fn replay<R: Read>(input: &mut R, records: u64) -> Tally {
-    let mut agree: u64 = 0;
-    let mut differ: u64 = 0;
+// Replays so many records, or up to one that is cut short.
+fn replay<R: Read>(input: &mut R, records: u64) -> Counts {
+    let mut tally = Tally::<1>::new();
     for _ in 0..records {
-        let found = replay_one(input);
-        match found {
-            Found::Agrees => agree = std::num::wrapping_add_u64(agree, 1),
-            Found::Differs => differ = std::num::wrapping_add_u64(differ, 1),
-            Found::Missing => {
-                break;
-            }
-        }
+        let Ok(agrees) = agrees(input) else {
+            break;
+        };
+        tally.count(0, agrees);
     }
-    Tally { agree, differ }
+    Counts {
+        records,
+        ..tally.of(0)
+    }
 }
 
+fn run<R: Read, P: Print>(input: &mut R, out: &P) -> io::Result<()> {
+    // Of a list that is cut short here, what there is counts.
+    let mut head = [0; 8];
+    lines::read_full(input, &mut head);
+    let counts = replay(input, u64::from_be_bytes(head));
+    println!(out; "roots: {counts}")
+}
+
+// A write that fails ends the output: to tell of it on standard error takes one more of C's functions, which nothing proves.
 fn main(rt: HostRuntime) {
-    let mut input = rt.stdin();
-    let mut head = [0u8; 8];
-    lines::read(&mut input, &mut head, 8);
-    let records = patterns::word_at(&head, 0);
-    let tally = replay(&mut input, records);
-    lines::write(&rt, b"roots");
-    lines::write_counts(&rt, records, tally.agree, tally.differ);
+    let _ = run(&mut rt.stdin(), &rt);
 }

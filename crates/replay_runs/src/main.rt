@@ -10,7 +10,9 @@ mod cases;
 use replay_problems::room::{A_ROOM, WORK_ROOM};
 use replay_problems::runs::{Cut, Found};
 use replay_problems::{cuts, runs};
+use std::io;
 use std::io::Read;
+use tally::Tally;
 
 // The longest record that there is room for: as much work as may be lent, and some words for all else. The longest of the list has 16,613.
 const RECORD_WORDS: usize = WORK_ROOM + 512;
@@ -39,119 +41,50 @@ const CUT: usize = 19;
 
 const COUNTED: usize = 24;
 
-// Reads a record and replays it: whether there was a whole one of a known kind.
-fn replay_one<R: Read>(
-    input: &mut R,
-    bytes: &mut [u8],
-    a: &mut [f64],
-    agree: &mut [u64; COUNTED],
-    differ: &mut [u64; COUNTED],
-) -> bool {
-    let mut head = [0u8; 16];
-    if !lines::read(input, &mut head, 16) {
+// Replays a record, with the differences met, which its tag adds up: whether it is one of a known kind.
+fn replay(tag: u64, record: &[u8], a: &mut [f64], tally: &mut Tally<COUNTED>) -> bool {
+    let Some(found) = runs::replay(record, runs::as_it_stands(record), a) else {
         return false;
-    }
-    let tag = patterns::word_at(&head, 0);
-    let words = patterns::word_at(&head, 8);
-    replay_rest(input, tag, words, bytes, a, agree, differ)
-}
-
-// Goes on after the first two words of a record, the differences met and how many words follow.
-fn replay_rest<R: Read>(
-    input: &mut R,
-    tag: u64,
-    words: u64,
-    bytes: &mut [u8],
-    a: &mut [f64],
-    agree: &mut [u64; COUNTED],
-    differ: &mut [u64; COUNTED],
-) -> bool {
-    if words > RECORD_WORDS as u64 {
-        return false;
-    }
-    let length = words as usize * 8;
-    if length > bytes.len() {
-        return false;
-    }
-    if !lines::read(input, bytes, length) {
-        return false;
-    }
-    let found = replay_as_it_stands(&bytes[0..length], a);
-    let told = match found {
-        Found::Agrees(number) => count(agree, number, tag),
-        Found::Differs(number) => count(differ, number, tag),
-        Found::Unknown => false,
     };
-    told && replay_cut(&bytes[0..length], a, agree, differ)
-}
-
-// Replays a record with its matrix as it stands there: whole, or half of it, for both halves.
-fn replay_as_it_stands(record: &[u8], a: &mut [f64]) -> Found {
-    if runs::is_half(record) {
-        return runs::replay(record, Cut::Twice, a);
-    }
-    runs::replay(record, Cut::Whole, a)
+    count(tally, found, tag) && replay_cut(record, a, tally)
 }
 
 // Replays a record with a dense matrix once more, cut in one of five ways, which take turns.
-fn replay_cut(
-    record: &[u8],
-    a: &mut [f64],
-    agree: &mut [u64; COUNTED],
-    differ: &mut [u64; COUNTED],
-) -> bool {
+fn replay_cut(record: &[u8], a: &mut [f64], tally: &mut Tally<COUNTED>) -> bool {
     if !runs::is_dense(record) {
         return true;
     }
-    let way = cuts::next(agree[ALL]);
+    let way = cuts::next(tally.of(ALL).agree);
     let first = cuts::first(way, runs::columns(record));
-    let found = runs::replay(record, Cut::After(first), a);
-    match found {
-        Found::Agrees(_) => tally::count(agree, std::num::wrapping_add_usize(CUT, way)),
-        Found::Differs(_) => tally::count(differ, std::num::wrapping_add_usize(CUT, way)),
-        Found::Unknown => false,
-    }
+    let Some(found) = runs::replay(record, Cut::After(first), a) else {
+        return false;
+    };
+    tally.count(CUT.wrapping_add(way), found.agrees)
 }
 
-// Counts an answer of this number, with the differences that its problem meets, which the tag adds up.
-fn count(tally: &mut [u64; COUNTED], number: usize, tag: u64) -> bool {
+// Counts an answer, with the differences that its problem meets, which the tag adds up.
+fn count(tally: &mut Tally<COUNTED>, found: Found, tag: u64) -> bool {
+    let Found { number, agrees } = found;
     if number < 1 || number > 12 || tag > 63 {
         return false;
     }
     if tag / 4 % 2 == 1 {
-        return tally::count(tally, ZEROS);
+        return tally.count(ZEROS, agrees);
     }
-    tally::count(tally, ALL);
-    tally::count(tally, number);
-    count_if(tally, tag % 2 == 1, EPS_ZERO);
-    count_if(tally, tag / 2 % 2 == 1, SWEEP_LIMIT);
-    count_if(tally, tag / 8 % 2 == 1, STOPS);
-    count_if(tally, tag / 16 % 2 == 1, BELOW_ZERO);
-    count_if(tally, tag / 32 == 1, LARGE_NORM)
-}
-
-fn count_if(tally: &mut [u64; COUNTED], met: bool, at: usize) -> bool {
-    if met {
-        return tally::count(tally, at);
-    }
-    true
-}
-
-// Replays so many records, or up to one that can't be: whether all were, and nothing follows.
-fn replay<R: Read>(
-    input: &mut R,
-    records: u64,
-    bytes: &mut [u8],
-    a: &mut [f64],
-    agree: &mut [u64; COUNTED],
-    differ: &mut [u64; COUNTED],
-) -> bool {
-    for _ in 0..records {
-        if !replay_one(input, bytes, a, agree, differ) {
-            return false;
+    tally.count(ALL, agrees);
+    tally.count(number, agrees);
+    for (unit, at) in [
+        (1, EPS_ZERO),
+        (2, SWEEP_LIMIT),
+        (8, STOPS),
+        (16, BELOW_ZERO),
+        (32, LARGE_NORM),
+    ] {
+        if tag / unit % 2 == 1 {
+            tally.count(at, agrees);
         }
     }
-    lines::at_end(input)
+    true
 }
 
 // Room for the longest record and for A. An array that a call answers has a length and nothing else that a proof would go into.
@@ -163,96 +96,36 @@ fn numbers_of_a() -> [f64; A_ROOM] {
     [0.0; A_ROOM]
 }
 
-// Writes the name of what is counted, if there is one of this number.
-fn write_name<P: Print>(out: &P, number: usize) -> bool {
-    if number <= 12 {
-        return lines::write_answer(out, number);
-    }
-    if number < CUT {
-        return write_difference(out, number);
-    }
-    write_cut(out, number - CUT)
-}
-
-fn write_difference<P: Print>(out: &P, number: usize) -> bool {
+// The name of what is counted, if there is one of this number.
+fn name_of(number: usize) -> Option<&'static str> {
     match number {
-        13 => lines::write(out, b"of all these, eps_zero of -0"),
-        14 => lines::write(out, b"of all these, a sweep limit reached"),
-        15 => {
-            lines::write(
-                out,
-                b"of all these, an empty matrix on which the original stops",
-            )
-        }
-        16 => {
-            lines::write(
-                out,
-                b"of all these, refused for a tolerance below zero alone",
-            )
-        }
-        17 => {
-            lines::write(
-                out,
-                b"of all these, a norm whose plain sum is infinite, of finite numbers",
-            )
-        }
-        18 => {
-            lines::write(
-                out,
-                b"apart from these, a larger or smaller of -0 and +0 otherwise",
-            )
-        }
-        _ => false,
+        EPS_ZERO => Some("of all these, eps_zero of -0"),
+        SWEEP_LIMIT => Some("of all these, a sweep limit reached"),
+        STOPS => Some("of all these, an empty matrix on which the original stops"),
+        BELOW_ZERO => Some("of all these, refused for a tolerance below zero alone"),
+        LARGE_NORM => Some("of all these, a norm whose plain sum is infinite, of finite numbers"),
+        ZEROS => Some("apart from these, a larger or smaller of -0 and +0 otherwise"),
+        CUT.. => cuts::name(number - CUT),
+        _ => lines::answer_name(number),
     }
 }
 
-// Writes the name of a way to cut a matrix, if there is one of this number.
-fn write_cut<P: Print>(out: &P, way: usize) -> bool {
-    match way {
-        0 => lines::write(out, b"cut before the first column"),
-        1 => lines::write(out, b"cut after the first column"),
-        2 => lines::write(out, b"cut in the middle"),
-        3 => lines::write(out, b"cut before the last column"),
-        4 => lines::write(out, b"cut after the last column"),
-        _ => false,
-    }
-}
-
-fn write_counted<P: Print>(out: &P, agree: &[u64; COUNTED], differ: &[u64; COUNTED]) {
-    for number in 0..COUNTED {
-        if write_name(out, number) {
-            let records = std::num::wrapping_add_u64(agree[number], differ[number]);
-            lines::write_counts(out, records, agree[number], differ[number]);
-        }
-    }
-}
-
-fn write_total<P: Print>(out: &P, whole: bool, agree: &[u64; COUNTED], differ: &[u64; COUNTED]) {
-    let records = std::num::wrapping_add_u64(agree[ALL], differ[ALL]);
-    lines::write_total(out, b"runs", whole, records, agree[ALL], differ[ALL]);
-}
-
-fn main(rt: HostRuntime) {
-    let mut input = rt.stdin();
-    let mut head = [0u8; 8];
-    if !lines::read(&mut input, &mut head, 8) {
-        lines::write(&rt, b"stopped: there is no list\n");
-        return;
-    }
-    let mut bytes = bytes_of_a_record();
+fn run<R: Read, P: Print>(input: &mut R, out: &P) -> io::Result<()> {
+    let Ok(records) = lines::read_word(input) else {
+        return out.println("stopped: there is no list");
+    };
+    let mut room = bytes_of_a_record();
     let mut a = numbers_of_a();
-    let mut agree = [0u64; COUNTED];
-    let mut differ = [0u64; COUNTED];
-    let records = patterns::word_at(&head, 0);
-    let whole = replay(
-        &mut input,
-        records,
-        &mut bytes,
-        &mut a,
-        &mut agree,
-        &mut differ,
-    );
-    write_counted(&rt, &agree, &differ);
-    write_total(&rt, whole, &agree, &differ);
-    cases::write_cases(&rt);
+    let mut tally = Tally::new();
+    let whole = lines::replay_all(input, records, &mut room, |tag, record| {
+        replay(tag, record, &mut a, &mut tally)
+    });
+    tally.write(out, name_of)?;
+    tally.of(ALL).write_total(out, "runs", whole)?;
+    cases::write_cases(out)
+}
+
+// A write that fails ends the output: to tell of it on standard error takes one more of C's functions, which nothing proves.
+fn main(rt: HostRuntime) {
+    let _ = run(&mut rt.stdin(), &rt);
 }

@@ -8,23 +8,29 @@ ghost use Rattle.std.specs.Float.Ieee.{of_bits};
 ghost use Rattle.rules.specs.Root as rules;
 ghost use Rattle.root.specs.Root.{Digits, Halved};
 
+// Where the exponent stands in a pattern; and the pattern of infinity.
+const EXPONENT: u64 = 1 << 52;
+
+const INFINITE: u64 = 2047 * EXPONENT;
+
 // The root: a zero keeps its sign, and below zero the answer is NaN.
 pub fn root(x: f64) -> f64
     ensures { result ≡ rules.root binary64 x }
 {
     if x > 0.0 {
-        let b = f64::to_bits(x);
-        if b < 4503599627370496 {
+        let b = x.to_bits();
+        if b < EXPONENT {
             root_of_low(b)
+        } else if b < INFINITE {
+            root_of_normal(x, b)
         } else {
-            if b < 9218868437227405312 {
-                root_of_normal(x, b)
-            } else {
-                x
-            }
+            x
         }
+    } else if x < 0.0 {
+        f64::NAN
     } else {
-        if x < 0.0 { 0.0 / 0.0 } else { x }
+        // a zero, or no number
+        x
     }
 }
 
@@ -33,9 +39,9 @@ fn root_of_normal(x: f64, b: u64) -> f64
     requires { (2 ^ 52 ≤ b) × (b < 2047 * 2 ^ 52) }
     ensures { result ≡ rules.root binary64 (of_bits binary64 b) }
 {
-    let places = b / 4503599627370496 + 1073;
+    let places = b / EXPONENT + 1073;
     let k = places / 2 - 26;
-    let m = (4503599627370496 + b % 4503599627370496) * (1 + places % 2);
+    let m = (EXPONENT + b % EXPONENT) * (1 + places % 2);
     let g = guess(x, b, k);
     if is_root(g, m, k) {
         g
@@ -51,9 +57,10 @@ fn root_of_low(b: u64) -> f64
 {
     let mut t = b;
     let mut places: u64 = 1074;
-    while t < 4503599627370496 {
-        t = t * 2;
-        places = places - 1;
+    // no index is counted: it goes on while digits are missing
+    while t < EXPONENT {
+        t *= 2;
+        places -= 1;
     }
     root_by_halving(t * (1 + places % 2), places / 2 - 26)
 }
@@ -62,12 +69,13 @@ fn root_of_low(b: u64) -> f64
 // f, so that s = x * y * (1 + r * f) is the root to 44 digits and h is 1/(2 * √x). One step by the error of s then gives the last digits:
 // with s = c + u, s + (x - s * s) / (2 * s) comes to c + (x - c * c + u * u) / (2 * s). The first half of f is enough for c, which needs
 // to be near s, and so short that c * c is exact: adding `cut` rounds it to 26 digits.
+#[tactic(auto, using(rules::proofs::RootPatterns::no_nan_pattern))]
 fn guess(x: f64, b: u64, k: u64) -> f64
     requires b_bound { b < 2047 * 2 ^ 52 }
     requires k_bound { k < 2000 }
 {
     let y = f64::from_bits(6910469410427058089 - b / 2);
-    let cut = f64::from_bits((k + 28) * 4503599627370496);
+    let cut = f64::from_bits((k + 28) * EXPONENT);
     let t = x * y;
     let r = 1.0 - t * y;
     let rr = r * r;
@@ -88,21 +96,15 @@ fn is_root(g: f64, m: u64, k: u64) -> bool
     requires { Digits m k }
     ensures { result ≡ true → g ≡ rules.root_of_units binary64 (m * 2 ^ 52 * (2 ^ k * 2 ^ k)) }
 {
-    if g == g {
-        let b = f64::to_bits(g);
-        if b / 4503599627370496 == k + 1 {
-            let q = b % 4503599627370496 + 4503599627370496;
-            if enough(q, m) {
-                !enough(q - 1, m)
-            } else {
-                false
-            }
-        } else {
-            false
-        }
-    } else {
-        false
+    if g.is_nan() {
+        return false;
     }
+    let b = g.to_bits();
+    if b / EXPONENT != k + 1 {
+        return false;
+    }
+    let q = b % EXPONENT + EXPONENT;
+    enough(q, m) && !enough(q - 1, m)
 }
 
 // The root of m * 2^52 * 4^k squares of the least value.
@@ -110,7 +112,7 @@ fn root_by_halving(m: u64, k: u64) -> f64
     requires { Digits m k }
     ensures { result ≡ rules.root_of_units binary64 (m * 2 ^ 52 * (2 ^ k * 2 ^ k)) }
 {
-    f64::from_bits(k * 4503599627370496 + halved(m))
+    f64::from_bits(k * EXPONENT + halved(m))
 }
 
 // The digits of the root: the least q of 53 digits that is enough.
@@ -118,8 +120,9 @@ fn halved(m: u64) -> u64
     requires { (2 ^ 52 ≤ m) × (m + 1 < 2 ^ 54) }
     ensures { Halved m result }
 {
-    let mut lo: u64 = 4503599627370496;
-    let mut hi: u64 = 9007199254740991;
+    let mut lo: u64 = EXPONENT;
+    let mut hi: u64 = 2 * EXPONENT - 1;
+    // no index is counted: the search ends where both meet, and there is no list that `partition_point` could search
     while lo < hi {
         let q = lo + (hi - lo) / 2;
         if enough(q, m) {

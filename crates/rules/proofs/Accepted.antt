@@ -14,8 +14,7 @@ use Rattle.rules.specs.Groups.{plain_words}
 use Rattle.rules.specs.Projections.{sweeps_fit}
 use Rattle.rules.specs.Product.{cone_work}
 use Rattle.rules.specs.Problem.{Problem, matrix, blocks, work_length}
-use Rattle.rules.specs.declared.Refusal.TheVariants.{Accepted}
-use Rattle.rules.specs.Refusals.{is_packed, is_edition, bad_tolerance, bad_param, too_large, invalid_op, bad_cone, work_shortage, refusal, read_problem, plain_problem}
+use Rattle.rules.specs.Refusals.{Accepted, is_packed, is_edition, bad_tolerance, bad_param, too_large, invalid_op, bad_cone, work_shortage, refusal, read_problem, plain_problem}
 use Rattle.rules.proofs.Matrices.{neither}
 use Rattle.rules.proofs.Groups.{no_longer}
 use Rattle.rules.proofs.Refusals.{none_holds}

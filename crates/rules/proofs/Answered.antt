@@ -14,7 +14,6 @@ use Rattle.rules.specs.declared.Ending.{Ending}
 use Rattle.rules.specs.declared.Ending.TheVariants.{BadParam, TooLarge, InvalidOp, BadCone, NotFinite, WorkShortage, Converged, ExcessIter, ExcessIterUnscaled, Unbounded, Infeasible, ConeFailure}
 use Rattle.rules.specs.declared.Criteria.{Criteria}
 use Rattle.rules.specs.declared.SolverParam.{SolverParam}
-use Rattle.rules.specs.declared.Verdict.TheVariants.{Ends, GoesOn}
 use Rattle.rules.specs.Outcome.{OnPaper, Solution, times_1/tau, unscaled, all_zero, turned_away, ends, on_paper}
 use Rattle.rules.specs.Helpers.{reciprocal}
 use Rattle.rules.specs.Arithmetic.{+0}
@@ -24,7 +23,7 @@ use Rattle.rules.specs.Problem.{Problem, embed, blocks, work_length}
 use Rattle.rules.specs.Step.{x_x, x_y}
 use Rattle.rules.specs.Criteria.{tau_of}
 use Rattle.rules.specs.Prepare.{zeros}
-use Rattle.rules.specs.Run.{Ended, is_scaled, is_cone_failure, verdict, allowance, final_x, laid_out, solution_x, solution_y, run, left_by}
+use Rattle.rules.specs.Run.{Ends, GoesOn, Ended, is_scaled, is_cone_failure, verdict, allowance, final_x, laid_out, solution_x, solution_y, run, left_by}
 use Rattle.rules.specs.Refusals.{facts, number_of, read_problem, SolveOutcome}
 use Rattle.rules.specs.Demands.{NoneHolds, step, state_after, tau_after, verdict_at, ending_test, GoesOnAt, EndsFirst, StopsAt, cone_fails, test_holds, allowance_met, CarriedAt, handed_back, AnsweredByTheRules}
 use Rattle.rules.proofs.Columns.{by_less}

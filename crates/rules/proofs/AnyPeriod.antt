@@ -11,7 +11,6 @@ use Rattle.rules.specs.declared.Criteria.{Criteria}
 use Rattle.rules.specs.declared.Criteria.TheVariants.{Conv, Inf}
 use Rattle.rules.specs.declared.Norms.{Norms}
 use Rattle.rules.specs.declared.SolverParam.{SolverParam}
-use Rattle.rules.specs.declared.Verdict.{Verdict}
 use Rattle.rules.specs.Parameters.{with_log_period}
 use Rattle.rules.specs.Blocks.{places}
 use Rattle.rules.specs.Projections.{proj_psd, proj_block}
@@ -20,7 +19,7 @@ use Rattle.rules.specs.Problem.{Problem, embed}
 use Rattle.rules.specs.Step.{State, Stepped, moved_x, projected, tau_taken, moved_y, updated}
 use Rattle.rules.specs.Criteria.{judged}
 use Rattle.rules.specs.Prepare.{prepared, prepared_norms}
-use Rattle.rules.specs.Run.{WholeStep, whole_step, verdict, allowance, Piece, going_on, piece_from, Ended, Left, run, left_by}
+use Rattle.rules.specs.Run.{Verdict, WholeStep, whole_step, verdict, allowance, Piece, going_on, piece_from, Ended, Left, run, left_by}
 use Rattle.rules.specs.Refusals.{bad_param, too_large, invalid_op, bad_cone, not_finite, work_shortage, facts, read_problem, solved}
 use Rattle.rules.specs.Split.{SplitProblem, joined_problem, invalid_split, split_facts, split_solved}
 use Rattle.rules.specs.Progress.{Log, with_log, logged_solved, split_logged_solved}

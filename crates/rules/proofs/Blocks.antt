@@ -12,10 +12,8 @@ use lib.ListN.{length, get_or, drop, drop_of_length-le}
 use lib.Seq.{drop-cons}
 use Rattle.rules.specs.declared.Cone.{Cone}
 use Rattle.rules.specs.declared.Cone.TheVariants.{PSD}
-use Rattle.rules.specs.declared.Word.{Word}
-use Rattle.rules.specs.declared.Word.TheVariants.{Block, Bad}
 use Rattle.rules.specs.Matrices.{triangle}
-use Rattle.rules.specs.Blocks.{kind_of, size_of, order_up_to, order_of, read_kind, read_word, places, is_bad, with_block, blocks_of, has_bad_word, total_places, is_bad_cone}
+use Rattle.rules.specs.Blocks.{Word, Block, Bad, kind_of, size_of, order_up_to, order_of, read_kind, read_word, places, is_bad, with_block, blocks_of, has_bad_word, total_places, is_bad_cone}
 
 -- ---- the order of a triangle
 

@@ -5,6 +5,7 @@ use native.Mathlib.Numerals.{add-one}
 use native.Mathlib.Omega.{arith}
 use mathlib.Core.Path.{◌≡◌, refl, sym, ◌∙◌, ap}
 use mathlib.Core.Bool.{Bool, true, false, cond, not, ◌&&◌, ◌||◌}
+use Rattle.std.specs.Prelude.{Option, Some, None}
 use mathlib.Core.List.{List, [], ◌∷◌, ◌++◌, append_assoc}
 use borrow.Author.Tests.{leb-true, leb-false, not-true, eq-eqb, le-leb}
 use lib.Dec.{leb, eqb}
@@ -13,15 +14,14 @@ use lib.ListN.{length, get_or, take, drop, take-append-drop, length-append, leng
 use lib.Seq.{take_at, drop_at, length-take-le}
 use Rattle.rules.specs.declared.Cone.{Cone}
 use Rattle.rules.specs.declared.Cone.TheVariants.{Zero, RPos, SOC, RotSOC, PSD}
-use Rattle.rules.specs.declared.Word.TheVariants.{Block, Bad}
-use Rattle.rules.specs.declared.Projection.TheVariants.{Done, Failed, No}
+use Rattle.rules.specs.declared.Projection.TheVariants.{Done, Failed}
 use Rattle.rules.specs.declared.Projection.{Projection}
 use Rattle.rules.specs.declared.Product.TheVariants.{Done as ProductDone, Failed as ProductFailed}
 use Rattle.rules.specs.declared.SolverParam.{SolverParam}
 use Rattle.rules.specs.Limits.{limit, most_sweeps, most_places}
 use Rattle.rules.specs.Arithmetic.{at, each}
 use Rattle.rules.specs.Helpers.{smaller}
-use Rattle.rules.specs.Blocks.{read_word, blocks_of, places, has_bad_word, total_places, is_bad_cone}
+use Rattle.rules.specs.Blocks.{Block, Bad, read_word, blocks_of, places, has_bad_word, total_places, is_bad_cone}
 use Rattle.rules.specs.Projections.{Projected, proj_block, block_work, sweeps_fit, block_fits, answer_of, BlockOutcome}
 use Rattle.rules.specs.Product.{Failure, none, block, one_later, Passed, proj_all, smallest_to, grouped, group_block, group_all, cone_work, blocks_within, sums_fit, list_fits, product_fits, ProductOutcome}
 use Rattle.rules.specs.Demands.{pairs_twice}
@@ -242,26 +242,22 @@ continued_more behind y q r n p = rw (append_assoc, add_assoc, later_more p.fail
     later_more (block b) = let e : n + 1 + b ≡ n + suc b = omega arith in rw e
 
 -- what a block's answer says
-answer_done : (p : Projected) (r : ℕ) → Done r ≡ answer_of p → (p.succeeded ≡ true) × (p.rotations ≡ r)
+answer_done : (p : Projected) (r : ℕ) → Some (Done r) ≡ Some (answer_of p) → (p.succeeded ≡ true) × (p.rotations ≡ r)
 answer_done p r e = go p.succeeded refl e
   where
-    go : (t : Bool) → p.succeeded ≡ t → Done r ≡ cond t (Done p.rotations) (Failed p.rotations) → (p.succeeded ≡ true) × (p.rotations ≡ r)
+    go : (t : Bool) → p.succeeded ≡ t → Some (Done r) ≡ Some (cond t (Done p.rotations) (Failed p.rotations)) → (p.succeeded ≡ true) × (p.rotations ≡ r)
     go true s e = (s, (cc))
     go false s e = let z : ◌≡◌ {A = ℕ} 0 1 = cc in absurd (omega arith)
 
-answer_failed : (p : Projected) (r : ℕ) → Failed r ≡ answer_of p → (p.succeeded ≡ false) × (p.rotations ≡ r)
+answer_failed : (p : Projected) (r : ℕ) → Some (Failed r) ≡ Some (answer_of p) → (p.succeeded ≡ false) × (p.rotations ≡ r)
 answer_failed p r e = go p.succeeded refl e
   where
-    go : (t : Bool) → p.succeeded ≡ t → Failed r ≡ cond t (Done p.rotations) (Failed p.rotations) → (p.succeeded ≡ false) × (p.rotations ≡ r)
+    go : (t : Bool) → p.succeeded ≡ t → Some (Failed r) ≡ Some (cond t (Done p.rotations) (Failed p.rotations)) → (p.succeeded ≡ false) × (p.rotations ≡ r)
     go false s e = (s, (cc))
     go true s e = let z : ◌≡◌ {A = ℕ} 0 1 = cc in absurd (omega arith)
 
-answer_some : (p : Projected) → No ≡ answer_of p → ⊥
-answer_some p e = go p.succeeded e
-  where
-    go : (t : Bool) → No ≡ cond t (Done p.rotations) (Failed p.rotations) → ⊥
-    go true e = let z : ◌≡◌ {A = ℕ} 0 1 = cc in omega arith
-    go false e = let z : ◌≡◌ {A = ℕ} 0 1 = cc in omega arith
+answer_some : (p : Projected) → None ≡ Some (answer_of p) → ⊥
+answer_some p e = let z : ◌≡◌ {A = ℕ} 0 1 = cc in omega arith
 
 module _ (par : SolverParam) (dual : Bool) (b : Cone) (blocks : List Cone) (x work : List Float) (k : ℕ) (ke : k ≡ places b) where
   pass_more : (proj_block par dual b (take k x) work).succeeded ≡ true
@@ -308,7 +304,7 @@ projecting_start par dual words x work e =
     }
 
 module _ {par : SolverParam} {dual : Bool} {words : List ℕ} {x₀ work₀ : List Float} {i a q n : ℕ} {x work : List Float} (g : Projecting par dual words x₀ work₀ i a q n x work) where
-  pub projecting_end : length words ≤ i → ProductOutcome true (proj_all par dual (blocks_of words) x₀ work₀) x₀ work₀ (ProductDone q) x work
+  pub projecting_end : length words ≤ i → ProductOutcome true (proj_all par dual (blocks_of words) x₀ work₀) x₀ work₀ (Some (ProductDone q)) x work
   unfolding proj_all
   projecting_end h =
       let all : made (take a x ++ drop a x) work (q + 0) none ≡ proj_all par dual (blocks_of words) x₀ work₀ = rw (blocks_end words i h) at g.whole in
@@ -324,14 +320,14 @@ module _ {par : SolverParam} {dual : Bool} {words : List ℕ} {x₀ work₀ : Li
         rw (ke, part_length a (places b) x inside, walk_limit g.walk h b e, eq-eqb (places b) (places b) refl, le-leb (block_work b) (length work) (omega (arith, g.enough, work_block words i h b e)))
         g.swept
 
-    module _ {answer : Projection} {y w : List Float} (o : BlockOutcome (block_fits par b (take k (drop a x)) work) (proj_block par dual b (take k (drop a x)) work) (take k (drop a x)) work answer y w) where
-      answered : answer ≡ answer_of (proj_block par dual b (take k (drop a x)) work)
+    module _ {answer : Option Projection} {y w : List Float} (o : BlockOutcome (block_fits par b (take k (drop a x)) work) (proj_block par dual b (take k (drop a x)) work) (take k (drop a x)) work answer y w) where
+      answered : answer ≡ Some (answer_of (proj_block par dual b (take k (drop a x)) work))
       answered = block_answered o projecting_fits
 
       left : (y ≡ (proj_block par dual b (take k (drop a x)) work).block) × (w ≡ (proj_block par dual b (take k (drop a x)) work).work)
       left = block_ruled o projecting_fits
 
-      pub projecting_some : answer ≡ No → ⊥
+      pub projecting_some : answer ≡ None → ⊥
       projecting_some is = answer_some (proj_block par dual b (take k (drop a x)) work) (sym is ∙ answered)
 
       few_more : (r : ℕ) → (proj_block par dual b (take k (drop a x)) work).rotations ≡ r → q + r ≤ most_sweeps * (a + k)
@@ -341,13 +337,13 @@ module _ {par : SolverParam} {dual : Bool} {words : List ℕ} {x₀ work₀ : Li
       fits_more : (r : ℕ) → (proj_block par dual b (take k (drop a x)) work).rotations ≡ r → q + r ≤ most_sweeps * most_places
       fits_more r is = omega (arith, few_more r is, inside, g.same, g.countable)
 
-      pub projecting_counts : (r : ℕ) → answer ≡ Done r → q + r ≤ most_sweeps * most_places
+      pub projecting_counts : (r : ℕ) → answer ≡ Some (Done r) → q + r ≤ most_sweeps * most_places
       projecting_counts r is = fits_more r (answer_done (proj_block par dual b (take k (drop a x)) work) r (sym is ∙ answered)).1
 
-      pub projecting_counts_failed : (r : ℕ) → answer ≡ Failed r → q + r ≤ most_sweeps * most_places
+      pub projecting_counts_failed : (r : ℕ) → answer ≡ Some (Failed r) → q + r ≤ most_sweeps * most_places
       projecting_counts_failed r is = fits_more r (answer_failed (proj_block par dual b (take k (drop a x)) work) r (sym is ∙ answered)).1
 
-      pub projecting_more : (r : ℕ) → answer ≡ Done r → length y ≡ length (take k (drop a x)) → length w ≡ length work → (end : ℕ) → end ≡ a + k
+      pub projecting_more : (r : ℕ) → answer ≡ Some (Done r) → length y ≡ length (take k (drop a x)) → length w ≡ length work → (end : ℕ) → end ≡ a + k
           → Projecting par dual words x₀ work₀ (i + 1) end (q + r) (n + 1) (rejoined a k x y) w
       projecting_more r is kept kept' end ee =
           let s = answer_done (proj_block par dual b (take k (drop a x)) work) r (sym is ∙ answered) in
@@ -371,7 +367,7 @@ module _ {par : SolverParam} {dual : Bool} {words : List ℕ} {x₀ work₀ : Li
             whole = rw (rejoined_take a k x y l m, rejoined_drop a k x y l m) (continued_more (take a x) y q r n rest ∙ (rw step at all));
           })
 
-      pub projecting_failed : (r : ℕ) → answer ≡ Failed r → ProductOutcome true (proj_all par dual (blocks_of words) x₀ work₀) x₀ work₀ (ProductFailed n (q + r)) (rejoined a k x y) w
+      pub projecting_failed : (r : ℕ) → answer ≡ Some (Failed r) → ProductOutcome true (proj_all par dual (blocks_of words) x₀ work₀) x₀ work₀ (Some (ProductFailed n (q + r))) (rejoined a k x y) w
       projecting_failed r is =
           let s = answer_failed (proj_block par dual b (take k (drop a x)) work) r (sym is ∙ answered) in
           let all : continued (take a x) q n (proj_all par dual (b ∷ blocks_of (drop (i + 1) words)) (drop a x) work) ≡ proj_all par dual (blocks_of words) x₀ work₀

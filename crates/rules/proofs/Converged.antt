@@ -16,8 +16,7 @@ use Rattle.rules.specs.declared.Criteria.TheVariants.{Conv, Inf}
 use Rattle.rules.specs.Criteria.{judged, tau_of}
 use Rattle.rules.specs.declared.Norms.{Norms}
 use Rattle.rules.specs.Prepare.{prepared_norms}
-use Rattle.rules.specs.declared.Verdict.TheVariants.{Ends, GoesOn}
-use Rattle.rules.specs.Run.{whole_step, verdict, allowance, run}
+use Rattle.rules.specs.Run.{Ends, GoesOn, whole_step, verdict, allowance, run}
 use Rattle.rules.specs.Demands.{step_from, state_after, step, ConvergedTest, ConvergedExactly}
 use Rattle.rules.proofs.Run.{ends_first}
 

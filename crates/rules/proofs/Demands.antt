@@ -15,7 +15,7 @@ use Rattle.rules.specs.Arithmetic.{◌+ᶠ◌, +0}
 use Rattle.rules.specs.Editions.{sum_by_halves, sum_by}
 use Rattle.rules.specs.Product.{Failure}
 use Rattle.rules.specs.Limits.{limit, most_deep}
-use Rattle.rules.specs.Blocks.{read_word, is_bad_cone}
+use Rattle.rules.specs.Blocks.{Bad, read_word, is_bad_cone}
 use Rattle.rules.specs.Groups.{is_group, plain_words, Says, Unreadable, Reading, has_group, without_groups}
 use Rattle.rules.specs.Matrices.{triangle}
 use Rattle.rules.specs.Problem.{Problem, with_words, work_length}
@@ -23,9 +23,7 @@ use Rattle.rules.specs.Step.{State}
 use Rattle.rules.specs.declared.Norms.{Norms}
 use Rattle.rules.specs.declared.Criteria.{Criteria}
 use Rattle.rules.specs.Run.{state_from, piece_from, taken_up, Ended, run, left_by}
-use Rattle.rules.specs.declared.Refusal.TheVariants.{Accepted, Refused}
-use Rattle.rules.specs.declared.Word.TheVariants.{Bad}
-use Rattle.rules.specs.Refusals.{Fact, facts, too_large, bad_cone, refusal, read_problem, plain_problem, number_of, left_turned_away, solved, SolveOutcome}
+use Rattle.rules.specs.Refusals.{Accepted, Refused, Fact, facts, too_large, bad_cone, refusal, read_problem, plain_problem, number_of, left_turned_away, solved, SolveOutcome}
 use Rattle.rules.specs.Split.{SplitProblem, slices_fit, joined_problem, plain_split, split_facts, split_refusal, split_solved, SplitOutcome}
 use Rattle.rules.specs.Progress.{is_due, untouched, with_log, LoggedLeft, logged_solved, split_logged_solved, LoggedAs, LoggedOutcome, SplitLoggedOutcome, Log, log_from}
 use Rattle.rules.specs.Demands.{NoneHolds, NumberedFrom, GivenExactly, TurnedAwayExactly, SplitTurnedAwayExactly, AsJoinedOrInvalid, GoesByTheRules, EndsFirst, GoesOnExactly, ConvergedExactly, RotationsBounded, AnsweredByTheRules, OldContentsChangeNothing, SplitOldContentsChangeNothing, PlacesBeyondKept, SplitPlacesBeyondKept, with_period, with_split_period, SameButForTheLog, DueStep, due_up_to, RecordedByTheRules, OldContentsOfThree, SplitOldContentsOfThree, IsWhole, whole_sum, WholeTerms}

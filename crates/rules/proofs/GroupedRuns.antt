@@ -1,5 +1,5 @@
 -- A problem whose list has groups comes to what the problem with the plain words of its list comes to.
-use Prim.Native.Nat.{ℕ, ◌≤◌}
+use Prim.Native.Nat.{ℕ}
 use native.Mathlib.Omega.{arith}
 use mathlib.Core.Path.{◌≡◌, refl, sym, ◌∙◌}
 use mathlib.Core.Bool.{Bool, true, false}
@@ -7,12 +7,11 @@ use mathlib.Core.List.{List}
 use borrow.Author.Tests.{le-ltb}
 use lib.Ieee.{Float}
 use lib.ListN.{length}
-use Rattle.rules.specs.declared.Refusal.TheVariants.{Accepted}
 use Rattle.rules.specs.Limits.{limit, most_words, most_deep}
 use Rattle.rules.specs.Blocks.{is_bad_cone}
 use Rattle.rules.specs.Groups.{plain_words, Says, Unreadable, has_group}
 use Rattle.rules.specs.Problem.{Problem, with_words}
-use Rattle.rules.specs.Refusals.{too_large, invalid_op, bad_cone, not_finite, work_shortage, refusal, facts, read_problem, plain_problem, solved}
+use Rattle.rules.specs.Refusals.{Accepted, too_large, invalid_op, bad_cone, not_finite, work_shortage, refusal, facts, read_problem, plain_problem, solved}
 use Rattle.rules.specs.Split.{SplitProblem, joined_problem, plain_split, split_refusal, split_solved}
 use Rattle.rules.proofs.Groups.{no_longer, plain_is_itself, read_exactly, no_bad_word_no_group}
 use Rattle.rules.proofs.Unreadable.{unreadable_says_nothing}

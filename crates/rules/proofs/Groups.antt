@@ -9,9 +9,8 @@ use lib.Dec.{leb, ltb, eqb}
 use lib.ListN.{length, take, drop, get_or, length-append, length-take, length-drop, take-append-drop}
 use lib.Seq.{take_at, drop_at, drop-cons, drop-drop, length-take-le}
 use borrow.Author.Tests.{leb-true, ltb-true, eqb-true, le-leb, lt-ltb}
-use Rattle.rules.specs.declared.Word.TheVariants.{Bad}
 use Rattle.rules.specs.Limits.{most_deep}
-use Rattle.rules.specs.Blocks.{kind_of, size_of, read_word, is_bad, has_bad_word, blocks_of, total_places, is_bad_cone}
+use Rattle.rules.specs.Blocks.{Bad, kind_of, size_of, read_word, is_bad, has_bad_word, blocks_of, total_places, is_bad_cone}
 use Rattle.rules.specs.Groups.{is_group, opens, own_of, item_of, plain_up_to, plain_at, plain_words, Says, nothing, plain, group, has_group}
 use Rattle.rules.proofs.Matrices.{both_true, neither}
 use Rattle.rules.proofs.Blocks.{reserved}

@@ -5,6 +5,7 @@ use native.Mathlib.Nat.{mul-add, add-mul, suc-mul, zero-mul}
 use native.Mathlib.Omega.{arith}
 use mathlib.Core.Path.{◌≡◌, refl, sym, ◌∙◌, ap}
 use mathlib.Core.Bool.{Bool, true, false, cond}
+use Rattle.std.specs.Prelude.{Option}
 use mathlib.Core.List.{List}
 use lib.Dec.{eqb}
 use lib.Ieee.{Float}
@@ -91,6 +92,6 @@ rotations_bounded n tol (suc left) m =
     (omega (arith, rotations_bounded n tol left (sweep n tol m), sweep_bounded n tol m, suc-mul left (pairs n)))
 
 -- Any two outcomes that the contract of Jacobi's method allows coincide: the answer, and each place of matrix and vectors.
-pub jacobi_outcomes_coincide : {fits : Bool} {ruled : Swept} {matrix vectors : List Float} {a b : Projection} {x y v w : List Float}
+pub jacobi_outcomes_coincide : {fits : Bool} {ruled : Swept} {matrix vectors : List Float} {a b : Option Projection} {x y v w : List Float}
     → JacobiOutcome fits ruled matrix vectors a x v → JacobiOutcome fits ruled matrix vectors b y w → (a ≡ b) × (x ≡ y) × (v ≡ w)
 jacobi_outcomes_coincide p q = (p.answered ∙ sym q.answered, p.matrix_left ∙ sym q.matrix_left, p.vectors_left ∙ sym q.vectors_left)

@@ -8,11 +8,9 @@ use lib.Ieee.{Float}
 use lib.ListN.{length, take}
 use Rattle.rules.specs.declared.Ending.{Ending}
 use Rattle.rules.specs.declared.Logged.{Logged}
-use Rattle.rules.specs.declared.Refusal.{Refusal}
-use Rattle.rules.specs.declared.Refusal.TheVariants.{Accepted, Refused}
 use Rattle.rules.specs.Problem.{Problem}
 use Rattle.rules.specs.Run.{run, left_by}
-use Rattle.rules.specs.Refusals.{facts, refusal, read_problem, left_turned_away, solved, SolveOutcome}
+use Rattle.rules.specs.Refusals.{Refusal, Accepted, Refused, facts, refusal, read_problem, left_turned_away, solved, SolveOutcome}
 use Rattle.rules.specs.Split.{SplitProblem, slices_fit, joined_problem, split_facts, split_refusal, split_solved, SplitOutcome}
 use Rattle.rules.specs.Progress.{untouched, log_after, LoggedLeft, log_of, with_log, logged_solved, split_logged_solved, LoggedAs, LoggedOutcome, SplitLoggedOutcome}
 use Rattle.rules.specs.Demands.{NoneHolds, RecordedByTheRules, SameOverThree, OldContentsOfThree, SplitOldContentsOfThree}

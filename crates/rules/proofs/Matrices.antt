@@ -18,7 +18,7 @@ use Rattle.rules.specs.Vectors.{abssum}
 use Rattle.rules.specs.Limits.{limit}
 use Rattle.rules.specs.Arithmetic.{◌+ᶠ◌, ◌*ᶠ◌, +0, at}
 use Rattle.rules.specs.Matrices.{n_row, n_col, stored_length, place, entry, entries, transposed, col_sum, product_by, transformed_by, width, height, stored_fits, Stored, line_fits, transform_fits}
-use Rattle.rules.proofs.Arithmetic.{sum_none, sum_same, each_same}
+use Rattle.rules.proofs.Arithmetic.{sum_none, each_same}
 use Rattle.rules.proofs.Editions.{sum_by_same}
 use Rattle.rules.proofs.Vectors.{abssum_of_part, abssum_of_rest}
 use Rattle.rules.proofs.Columns.{packed_place_mirrored, packed_place_inside}

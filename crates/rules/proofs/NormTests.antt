@@ -6,7 +6,7 @@ use mathlib.Core.Bool.{Bool, true, false, ◌&&◌, and-true, and_assoc, false�
 use mathlib.Core.Logic.{⊎_elim}
 use mathlib.Core.List.{List}
 use lib.Dec.{T}
-use lib.Ieee.{Float, nan, inf, fin, binary64, of_bits, up, down, add, mul, eq, fits, is_nan}
+use lib.Ieee.{Float, nan, inf, fin, binary64, of_bits, up, down, mul, eq, fits, is_nan}
 use lib.Ieee.Fits.{add-fits}
 use lib.ListN.{length, drop, drop_of_length-le}
 use lib.Seq.{drop-cons}

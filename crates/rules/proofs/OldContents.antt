@@ -17,9 +17,7 @@ use Rattle.rules.specs.Step.{State, x_x, x_y}
 use Rattle.rules.specs.Criteria.{tau_of}
 use Rattle.rules.specs.Prepare.{zeros}
 use Rattle.rules.specs.Run.{Ended, is_scaled, is_cone_failure, final_x, laid_out, run, left_by}
-use Rattle.rules.specs.declared.Refusal.{Refusal}
-use Rattle.rules.specs.declared.Refusal.TheVariants.{Accepted, Refused}
-use Rattle.rules.specs.Refusals.{refusal, read_problem, left_turned_away, solved}
+use Rattle.rules.specs.Refusals.{Refusal, Accepted, Refused, refusal, read_problem, left_turned_away, solved}
 use Rattle.rules.specs.Demands.{work_needed, cone_needed, OldContentsChangeNothing, PlacesBeyondKept, KeptBeyond}
 use Rattle.rules.proofs.KernelLengths.{scaled-length}
 use Rattle.rules.proofs.Lengths.{Sized, x_x-length, x_y-length, run-sized}

@@ -1,19 +1,17 @@
 -- Laws of a progress record, step by step.
-use Prim.Native.Nat.{ℕ, zero, suc, ◌+◌, ◌*◌, ◌≤◌}
+use Prim.Native.Nat.{ℕ, zero, suc, ◌+◌, ◌≤◌}
 use native.Mathlib.Omega.{arith}
-use mathlib.Core.Path.{◌≡◌, refl, sym, ◌∙◌, ap}
-use mathlib.Core.Bool.{Bool, true, false, cond, ◌&&◌}
+use mathlib.Core.Path.{◌≡◌, refl, ◌∙◌, ap}
+use mathlib.Core.Bool.{Bool, true, false, ◌&&◌}
 use mathlib.Core.List.{List}
-use borrow.Author.Tests.{leb-true}
 use lib.Ieee.{Float}
-use lib.ListN.{length}
 use Rattle.rules.specs.declared.Norms.{Norms}
 use Rattle.rules.specs.Product.{is_none}
 use Rattle.rules.specs.Problem.{Problem, embed}
 use Rattle.rules.specs.Step.{State}
 use Rattle.rules.specs.Criteria.{tau_of}
 use Rattle.rules.specs.Run.{WholeStep, whole_step, state_from}
-use Rattle.rules.specs.Progress.{is_due, row_of, Log, untouched, row_fits, row_put, log_row, log_step, log_from}
+use Rattle.rules.specs.Progress.{is_due, row_of, Log, row_fits, row_put, log_row, log_step, log_from}
 use Rattle.rules.proofs.Run.{step_from_lem, state_from_lem, no_steps}
 
 -- ---- one step

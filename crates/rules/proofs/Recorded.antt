@@ -15,13 +15,12 @@ use Rattle.rules.specs.declared.Criteria.{Criteria}
 use Rattle.rules.specs.declared.Criteria.TheVariants.{Conv, Inf}
 use Rattle.rules.specs.declared.Ending.{Ending}
 use Rattle.rules.specs.declared.SolverParam.{SolverParam}
-use Rattle.rules.specs.declared.Verdict.TheVariants.{Ends}
 use Rattle.rules.specs.Product.{Failure, is_none}
 use Rattle.rules.specs.Problem.{Problem, embed}
 use Rattle.rules.specs.Step.{part}
 use Rattle.rules.specs.Criteria.{tau_of}
 use Rattle.rules.specs.Prepare.{prepared, prepared_norms}
-use Rattle.rules.specs.Run.{WholeStep, whole_step, verdict, is_cone_failure, run}
+use Rattle.rules.specs.Run.{Ends, WholeStep, whole_step, verdict, is_cone_failure, run}
 use Rattle.rules.specs.Progress.{is_due, row_of, Log, untouched, row_fits, row_put, log_row, log_step, log_after}
 use Rattle.rules.specs.Demands.{state_after, step, tau_after, due_up_to, completed, row_at, RecordedByTheRules}
 use Rattle.rules.proofs.Columns.{by_less}

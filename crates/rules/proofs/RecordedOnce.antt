@@ -1,10 +1,10 @@
 -- A record that is as demanded is the only one.
 use Prim.Native.Nat.{ℕ, zero, suc, ◌+◌, ◌-◌, ◌*◌, ◌<◌}
 use native.Mathlib.Omega.{arith}
-use mathlib.Core.Path.{◌≡◌, refl, sym, ◌∙◌}
+use mathlib.Core.Path.{◌≡◌, sym, ◌∙◌}
 use mathlib.Core.List.{List, ◌++◌}
 use lib.Ieee.{Float}
-use lib.ListN.{length, take, drop, take-append-drop}
+use lib.ListN.{drop, take-append-drop}
 use Rattle.rules.specs.declared.Logged.{Logged}
 use Rattle.rules.specs.Problem.{Problem}
 use Rattle.rules.specs.Step.{part}

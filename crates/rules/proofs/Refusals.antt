@@ -16,10 +16,8 @@ use Rattle.rules.specs.Product.{Failure, none, block}
 use Rattle.rules.specs.Problem.{Problem}
 use Rattle.rules.specs.declared.Criteria.{Criteria}
 use Rattle.rules.specs.declared.Criteria.TheVariants.{Conv, Inf}
-use Rattle.rules.specs.declared.Verdict.TheVariants.{Ends, GoesOn}
-use Rattle.rules.specs.Run.{verdict, allowance, run, Left, left_by}
-use Rattle.rules.specs.declared.Refusal.TheVariants.{Accepted}
-use Rattle.rules.specs.Refusals.{Fact, ◌when◌, First, none_applies, applies, first_of, facts, as_refusal, refusal, number_of, read_problem, left_turned_away, left_after, solved, SolveOutcome}
+use Rattle.rules.specs.Run.{Ends, GoesOn, verdict, allowance, run, Left, left_by}
+use Rattle.rules.specs.Refusals.{Accepted, Fact, ◌when◌, First, none_applies, applies, first_of, facts, as_refusal, refusal, number_of, read_problem, left_turned_away, left_after, solved, SolveOutcome}
 use Rattle.rules.specs.Demands.{holds_at, NoneHolds, FirstToHold, NumberedFrom, number_given, GivenExactly, TurnedAwayBy, TurnedAwayExactly, step}
 use Rattle.rules.proofs.Columns.{by_less}
 use Rattle.rules.proofs.Run.{ends_first}

@@ -8,7 +8,7 @@ use mathlib.Core.Logic.{◌⊎◌, inl, inr}
 use mathlib.Core.Bool.{Bool, true, false, not, cond}
 use lib.Dec.{T, is_le, compare_is_eq, leb, leb→le, nleb→lt, eqb→eq}
 use lib.Pow.{pow_pos, pow_mono, pow-add}
-use lib.Ieee.{binary64, size, nearest, odd, units}
+use lib.Ieee.{binary64, size, nearest, units}
 use lib.Ieee.Digits.{size-lt, size-le}
 use Rattle.rules.specs.Root.{root_digits, whole_root, root_of_units}
 

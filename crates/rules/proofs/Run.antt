@@ -17,9 +17,7 @@ use Rattle.rules.specs.declared.Criteria.{Criteria}
 use Rattle.rules.specs.declared.Criteria.TheVariants.{Conv, Inf}
 use Rattle.rules.specs.declared.Norms.{Norms}
 use Rattle.rules.specs.Prepare.{prepared, prepared_norms}
-use Rattle.rules.specs.declared.Verdict.{Verdict}
-use Rattle.rules.specs.declared.Verdict.TheVariants.{Ends, GoesOn}
-use Rattle.rules.specs.Run.{WholeStep, whole_step, verdict, allowance, state_from, Piece, going_on, piece_from, taken_up, Ended, ended_by, run}
+use Rattle.rules.specs.Run.{Verdict, Ends, GoesOn, WholeStep, whole_step, verdict, allowance, state_from, Piece, going_on, piece_from, taken_up, Ended, ended_by, run}
 use Rattle.rules.specs.Demands.{step_from, verdict_from, rotations_from, GoesByTheRules, state_after, step, verdict_at, rotations_up_to, EndsFirst, ending_test, GoesOnExactly}
 use Rattle.rules.proofs.Columns.{by_less}
 

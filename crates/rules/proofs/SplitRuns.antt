@@ -10,10 +10,9 @@ use lib.Ieee.{Float}
 use lib.ListN.{length}
 use Rattle.rules.specs.declared.Answer.{Answer}
 use Rattle.rules.specs.declared.Ending.TheVariants.{InvalidOp}
-use Rattle.rules.specs.declared.Refusal.TheVariants.{Accepted, Refused}
 use Rattle.rules.specs.Problem.{Problem}
 use Rattle.rules.specs.Run.{run, left_by}
-use Rattle.rules.specs.Refusals.{first_of, as_refusal, bad_param, too_large, invalid_op, refusal, facts, read_problem, number_of, left_turned_away, left_after, solved, SolveOutcome}
+use Rattle.rules.specs.Refusals.{Accepted, Refused, first_of, as_refusal, bad_param, too_large, invalid_op, refusal, facts, read_problem, number_of, left_turned_away, left_after, solved, SolveOutcome}
 use Rattle.rules.specs.Split.{SplitProblem, slices_fit, joined_problem, invalid_split, split_facts, split_refusal, split_solved, SplitOutcome}
 use Rattle.rules.specs.Demands.{NoneHolds, NumberedFrom, SplitTurnedAwayExactly, AsJoinedOrInvalid, AnsweredByTheRules, SplitOldContentsChangeNothing, SplitPlacesBeyondKept}
 use Rattle.rules.proofs.Matrices.{both_true, neither}

@@ -1,11 +1,19 @@
 -- Document 01, "What the hub hands over": the cone list. One reading makes blocks of its words; everything else is over the blocks. Lists are plain here: what
 -- a list with groups says is a plain list (Groups.antt).
-use Rattle.std.specs.Prelude.{ℕ, zero, suc, ◌+◌, ◌/◌, ◌%◌, Bool, true, false, not, cond, ◌||◌, List, [], ◌∷◌, leb, eqb}
+use Rattle.std.specs.Prelude.{ℕ, zero, suc, ◌+◌, ◌/◌, ◌%◌, Bool, true, false, not, cond, ◌||◌, List, [], ◌∷◌, leb, eqb, Option, Some, None}
 use Rattle.rules.specs.declared.Cone.{Cone}
 use Rattle.rules.specs.declared.Cone.TheVariants.{Zero, RPos, SOC, RotSOC, PSD}
-use Rattle.rules.specs.declared.Word.{Word}
-use Rattle.rules.specs.declared.Word.TheVariants.{Block, Bad}
 use Rattle.rules.specs.Matrices.{triangle}
+
+-- what a word of a plain list says: a block; a bad word says none
+abbrev pub Word : Type 0
+Word = Option Cone
+
+pattern abbrev pub Block : Cone → Word
+Block b = Some b
+
+pattern abbrev pub Bad : Word
+Bad = None
 
 -- "A cone word is 16 bits, most significant field first: 3 bits of kind, 13 bits of size."
 abbrev pub kind_of : ℕ → ℕ

@@ -17,9 +17,7 @@ use Rattle.rules.specs.declared.Criteria.TheVariants.{Conv, Inf}
 use Rattle.rules.specs.Criteria.{tau_of}
 use Rattle.rules.specs.declared.Norms.{Norms}
 use Rattle.rules.specs.Prepare.{prepared, prepared_norms, zeros}
-use Rattle.rules.specs.declared.Verdict.{Verdict}
-use Rattle.rules.specs.declared.Verdict.TheVariants.{Ends, GoesOn}
-use Rattle.rules.specs.Run.{WholeStep, whole_step, verdict, allowance, state_from, Piece, Ended, Left, is_cone_failure, laid_out, solution_x, solution_y}
+use Rattle.rules.specs.Run.{Verdict, Ends, GoesOn, WholeStep, whole_step, verdict, allowance, state_from, Piece, Ended, Left, is_cone_failure, laid_out, solution_x, solution_y}
 use Rattle.rules.specs.Outcome.{Solution, times_1/tau, unscaled, all_zero, ends, on_paper}
 use Rattle.rules.specs.Helpers.{reciprocal}
 use Rattle.rules.specs.Vectors.{scaled}

@@ -1,7 +1,7 @@
 -- Document 02, request (xi): "A second edition of sums. .. Add an edition, chosen by a parameter, whose norms and matrix products add a range by halves".
 use Rattle.std.specs.Prelude.{ℕ, zero, suc, ◌+◌, ◌-◌, ◌/◌, cond, eqb, Float}
 use Rattle.std.specs.Float.Ieee.{add}
-use Rattle.rules.specs.Arithmetic.{◌+ᶠ◌, +0, sum_to, sum_from}
+use Rattle.rules.specs.Arithmetic.{◌+ᶠ◌, +0, sum_to}
 
 -- "a range of one is its term, a longer range of length L is the sum of its first floor(L/2) and the sum of the rest, an empty one is +0": of the n terms f 0, f 1, ..
 -- A recursion goes by a number that falls by one: here by how often a range and its parts may still be cut.

@@ -1,10 +1,10 @@
 -- Document 01, "Port order", 5: Jacobi's method, jacobi_eig of floatgeneric.rs. The matrix is a packed upper triangle; the vectors are n columns of n.
-use Rattle.std.specs.Prelude.{ℕ, zero, suc, ◌+◌, ◌-◌, ◌*◌, ◌≡◌, Bool, true, false, cond, ◌&&◌, List, leb, eqb, Float}
+use Rattle.std.specs.Prelude.{ℕ, zero, suc, ◌+◌, ◌-◌, ◌*◌, ◌≡◌, Bool, true, false, cond, ◌&&◌, List, leb, eqb, Float, Option, Some, None}
 use Rattle.std.specs.Float.{binary64}
 use Rattle.std.specs.Float.Ieee.{lt, neg, add, sub, mul, div}
 use Rattle.rules.specs.declared.MatType.TheVariants.{General, SymPack}
 use Rattle.rules.specs.declared.Projection.{Projection}
-use Rattle.rules.specs.declared.Projection.TheVariants.{Done, Failed, No}
+use Rattle.rules.specs.declared.Projection.TheVariants.{Done, Failed}
 use Rattle.rules.specs.declared.SolverParam.{SolverParam}
 use Rattle.rules.specs.Limits.{limit, most_sweeps}
 use Rattle.rules.specs.Helpers.{one, reciprocal}
@@ -157,7 +157,7 @@ abbrev pub swept_answer : Swept → Projection
 swept_answer s = cond s.succeeded (Done s.reached.rotations) (Failed s.reached.rotations)
 
 -- It answers by the rule where the sizes fit, and no where they don't; matrix and vectors hold what the rule says, place by place, or what they held before.
-pub record JacobiOutcome (fits : Bool) (ruled : Swept) (matrix vectors : List Float) (answer : Projection) (matrix' vectors' : List Float) : Type 0 where
-  pub answered : answer ≡ cond fits (swept_answer ruled) No
+pub record JacobiOutcome (fits : Bool) (ruled : Swept) (matrix vectors : List Float) (answer : Option Projection) (matrix' vectors' : List Float) : Type 0 where
+  pub answered : answer ≡ cond fits (Some (swept_answer ruled)) None
   pub matrix_left : matrix' ≡ cond fits ruled.reached.matrix matrix
   pub vectors_left : vectors' ≡ cond fits ruled.reached.vectors vectors

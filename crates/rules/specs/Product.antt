@@ -1,9 +1,9 @@
 -- Document 01, "Port order", 6: the cone product: "blocks in list order; grouping gives each block of kinds 2, 3, 4 its smallest value."
-use Rattle.std.specs.Prelude.{ℕ, zero, suc, ◌+◌, max, ◌≡◌, Bool, true, false, cond, not, ◌&&◌, leb, List, [], ◌∷◌, ◌++◌, Float, length, take, drop}
+use Rattle.std.specs.Prelude.{ℕ, zero, suc, ◌+◌, max, ◌≡◌, Bool, true, false, cond, not, ◌&&◌, leb, List, [], ◌∷◌, ◌++◌, Float, length, take, drop, Option, Some, None}
 use Rattle.rules.specs.declared.Cone.{Cone}
 use Rattle.rules.specs.declared.Cone.TheVariants.{Zero, RPos, SOC, RotSOC, PSD}
 use Rattle.rules.specs.declared.Product.{Product}
-use Rattle.rules.specs.declared.Product.TheVariants.{Done, Failed, No}
+use Rattle.rules.specs.declared.Product.TheVariants.{Done, Failed}
 use Rattle.rules.specs.declared.SolverParam.{SolverParam}
 use Rattle.rules.specs.Limits.{limit, most_places}
 use Rattle.rules.specs.Helpers.{smaller}
@@ -99,7 +99,7 @@ abbrev pub product_answer : ℕ → Failure → Product
 product_answer rotations none = Done rotations
 product_answer rotations (block b) = Failed b rotations
 
-pub record ProductOutcome (fits : Bool) (ruled : Passed) (cone work : List Float) (answer : Product) (cone' work' : List Float) : Type 0 where
-  pub answered : answer ≡ cond fits (product_answer ruled.rotations ruled.failure) No
+pub record ProductOutcome (fits : Bool) (ruled : Passed) (cone work : List Float) (answer : Option Product) (cone' work' : List Float) : Type 0 where
+  pub answered : answer ≡ cond fits (Some (product_answer ruled.rotations ruled.failure)) None
   pub cone_left : cone' ≡ cond fits ruled.cone cone
   pub work_left : work' ≡ cond fits ruled.work work

@@ -4,8 +4,6 @@ use Rattle.rules.specs.declared.Criteria.{Criteria}
 use Rattle.rules.specs.declared.Criteria.TheVariants.{Conv, Inf}
 use Rattle.rules.specs.declared.Logged.{Logged}
 use Rattle.rules.specs.declared.Norms.{Norms}
-use Rattle.rules.specs.declared.Refusal.{Refusal}
-use Rattle.rules.specs.declared.Refusal.TheVariants.{Accepted, Refused}
 use Rattle.rules.specs.Arithmetic.{+0}
 use Rattle.rules.specs.Product.{is_none}
 use Rattle.rules.specs.Problem.{Problem, embed}
@@ -13,7 +11,7 @@ use Rattle.rules.specs.Step.{State}
 use Rattle.rules.specs.Criteria.{tau_of}
 use Rattle.rules.specs.Prepare.{prepared, prepared_norms}
 use Rattle.rules.specs.Run.{WholeStep, whole_step, state_from, run, Left}
-use Rattle.rules.specs.Refusals.{read_problem, refusal, solved}
+use Rattle.rules.specs.Refusals.{Refusal, Accepted, Refused, read_problem, refusal, solved}
 use Rattle.rules.specs.Split.{SplitProblem, joined_problem, split_refusal, split_solved}
 
 -- "At steps 1, 1 + period, 1 + 2·period and so on": steps are counted from 1, and a period of 0 means none

@@ -1,11 +1,11 @@
 -- Document 01, "Port order", 4 and 5: the projection of each kind of block, cone_*.rs. A block of size 0 of any kind has nothing to do.
-use Rattle.std.specs.Prelude.{ℕ, zero, suc, ◌+◌, ◌*◌, ◌≡◌, Bool, true, false, cond, ◌&&◌, List, [], ◌∷◌, ◌++◌, leb, eqb, Float, length, take, drop}
+use Rattle.std.specs.Prelude.{ℕ, zero, suc, ◌+◌, ◌*◌, ◌≡◌, Bool, true, false, cond, ◌&&◌, List, [], ◌∷◌, ◌++◌, leb, eqb, Float, length, take, drop, Option, Some, None}
 use Rattle.std.specs.Float.{binary64}
 use Rattle.std.specs.Float.Ieee.{lt, le, neg, add, sub, mul, div}
 use Rattle.rules.specs.declared.Cone.{Cone}
 use Rattle.rules.specs.declared.Cone.TheVariants.{Zero, RPos, SOC, RotSOC, PSD}
 use Rattle.rules.specs.declared.Projection.{Projection}
-use Rattle.rules.specs.declared.Projection.TheVariants.{Done, Failed, No}
+use Rattle.rules.specs.declared.Projection.TheVariants.{Done, Failed}
 use Rattle.rules.specs.declared.SolverParam.{SolverParam}
 use Rattle.rules.specs.Limits.{limit}
 use Rattle.rules.specs.Helpers.{larger, one, reciprocal}
@@ -130,7 +130,7 @@ abbrev pub answer_of : Projected → Projection
 answer_of p = cond p.succeeded (Done p.rotations) (Failed p.rotations)
 
 -- It answers by the rule where the sizes fit, and no where they don't; the block and cone work hold what the rule says, place by place, or what they held before.
-pub record BlockOutcome (fits : Bool) (ruled : Projected) (block work : List Float) (answer : Projection) (block' work' : List Float) : Type 0 where
-  pub answered : answer ≡ cond fits (answer_of ruled) No
+pub record BlockOutcome (fits : Bool) (ruled : Projected) (block work : List Float) (answer : Option Projection) (block' work' : List Float) : Type 0 where
+  pub answered : answer ≡ cond fits (Some (answer_of ruled)) None
   pub block_left : block' ≡ cond fits ruled.block block
   pub work_left : work' ≡ cond fits ruled.work work

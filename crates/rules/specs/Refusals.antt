@@ -1,6 +1,6 @@
 -- Document 01, "When the hub is turned away": "Tests run in this order; the first that applies answers, and none is given otherwise. k = q = 0, and both
 -- buffers keep their contents."
-use Rattle.std.specs.Prelude.{ℕ, ◌≡◌, Bool, true, false, not, cond, ◌&&◌, ◌||◌, List, [], ◌∷◌, ltb, eqb, Float, length}
+use Rattle.std.specs.Prelude.{ℕ, ◌≡◌, Bool, true, false, not, cond, ◌&&◌, ◌||◌, List, [], ◌∷◌, ltb, eqb, Float, length, Result, Ok, Err}
 use Rattle.std.specs.Float.Ieee.{lt}
 use Rattle.rules.specs.declared.Answer.{Answer}
 use Rattle.rules.specs.declared.Ending.{Ending}
@@ -8,8 +8,6 @@ use Rattle.rules.specs.declared.Ending.TheVariants.{BadParam, TooLarge, InvalidO
 use Rattle.rules.specs.declared.SolverParam.{SolverParam}
 use Rattle.rules.specs.declared.Storage.{Storage}
 use Rattle.rules.specs.declared.Storage.TheVariants.{Dense, Packed}
-use Rattle.rules.specs.declared.Refusal.{Refusal}
-use Rattle.rules.specs.declared.Refusal.TheVariants.{Accepted, Refused}
 use Rattle.rules.specs.Limits.{limit, most_words, most_steps}
 use Rattle.rules.specs.Helpers.{is_finite, all_finite}
 use Rattle.rules.specs.Arithmetic.{+0}
@@ -119,6 +117,16 @@ facts p work cone =
     ∷ (NotFinite when not_finite p)
     ∷ (WorkShortage when work_shortage p work cone)
     ∷ []
+
+-- what the six tests say of a problem: nothing against it, or the ending with which it is turned away
+abbrev pub Refusal : Type 0
+Refusal = Result (Unit {0}) Ending
+
+pattern abbrev pub Accepted : Refusal
+Accepted = Ok tt
+
+pattern abbrev pub Refused : Ending → Refusal
+Refused e = Err e
 
 abbrev pub as_refusal : First Ending → Refusal
 as_refusal none_applies = Accepted

@@ -1,12 +1,10 @@
 -- Document 01, "How a run ends".
-use Rattle.std.specs.Prelude.{ℕ, zero, suc, ◌+◌, max, Bool, true, false, cond, ◌&&◌, List, [], ◌++◌, leb, Float, length, take, drop}
+use Rattle.std.specs.Prelude.{ℕ, zero, suc, ◌+◌, max, Bool, true, false, cond, ◌&&◌, List, [], ◌++◌, leb, Float, length, take, drop, Option, Some, None}
 use Rattle.std.specs.Float.Ieee.{le}
 use Rattle.rules.specs.declared.Answer.{Answer}
 use Rattle.rules.specs.declared.Ending.{Ending}
 use Rattle.rules.specs.declared.Ending.TheVariants.{Converged, ExcessIter, ExcessIterUnscaled, Unbounded, Infeasible, ConeFailure}
 use Rattle.rules.specs.declared.SolverParam.{SolverParam}
-use Rattle.rules.specs.declared.Verdict.{Verdict}
-use Rattle.rules.specs.declared.Verdict.TheVariants.{GoesOn, Ends}
 use Rattle.rules.specs.Outcome.{OnPaper, turned_away, ends, times_1/tau, unscaled, all_zero, on_paper}
 use Rattle.rules.specs.Helpers.{reciprocal}
 use Rattle.rules.specs.Arithmetic.{at}
@@ -39,6 +37,16 @@ whole_step p ns s =
     record { state = after; rotations = u.rotations; failure = u.failure; criteria = j.criteria }
 
 -- ---- whether it ends
+
+-- what a step says of a run: its ending, or none where it goes on
+abbrev pub Verdict : Type 0
+Verdict = Option Ending
+
+pattern abbrev pub GoesOn : Verdict
+GoesOn = None
+
+pattern abbrev pub Ends : Ending → Verdict
+Ends e = Some e
 
 -- "The allowance is met at step max(max_iter, 1)."
 abbrev pub allowance : SolverParam → ℕ

@@ -6,13 +6,12 @@ use Rattle.rules.specs.declared.Ending.{Ending}
 use Rattle.rules.specs.declared.Ending.TheVariants.{BadParam, TooLarge, InvalidOp, BadCone, NotFinite, WorkShortage}
 use Rattle.rules.specs.declared.SolverParam.{SolverParam}
 use Rattle.rules.specs.declared.Storage.TheVariants.{Dense}
-use Rattle.rules.specs.declared.Refusal.{Refusal}
 use Rattle.rules.specs.Limits.{limit}
 use Rattle.rules.specs.Groups.{plain_words}
 use Rattle.rules.specs.Problem.{Problem, problem_of}
 use Rattle.rules.specs.Step.{part}
 use Rattle.rules.specs.Run.{Left, run, left_by}
-use Rattle.rules.specs.Refusals.{Fact, ◌when◌, first_of, as_refusal, bad_param, too_large, bad_cone, not_finite, work_shortage, read_problem, left_after}
+use Rattle.rules.specs.Refusals.{Refusal, Fact, ◌when◌, first_of, as_refusal, bad_param, too_large, bad_cone, not_finite, work_shortage, read_problem, left_after}
 
 -- m rows and n columns by columns: the factory slice holds the first n1 of them, the lesson slice the rest
 abbrev pub split_lengths : ℕ → ℕ → ℕ → List Float → List Float → Bool

@@ -7,7 +7,6 @@ use Rattle.rules.specs.declared.MatType.TheVariants.{General, SymPack}
 use Rattle.rules.specs.declared.Storage.TheVariants.{Dense}
 use Rattle.rules.specs.declared.SolverParam.{SolverParam}
 use Rattle.rules.specs.declared.Cone.TheVariants.{SOC}
-use Rattle.rules.specs.declared.Word.TheVariants.{Block}
 use Rattle.rules.specs.declared.Answer.{Answer}
 use Rattle.rules.specs.declared.Criteria.TheVariants.{Conv, Inf}
 use Rattle.rules.specs.declared.Logged.{Logged}
@@ -19,7 +18,7 @@ use Rattle.rules.specs.Helpers.{larger, smaller}
 use Rattle.rules.specs.Vectors.{norm, norm_by, abssum}
 use Rattle.rules.specs.Matrices.{opped, trans_opped, trans_opped_by, absadded_rows, absadded_cols}
 use Rattle.rules.specs.Projections.{proj_soc}
-use Rattle.rules.specs.Blocks.{read_word}
+use Rattle.rules.specs.Blocks.{Block, read_word}
 use Rattle.rules.specs.Groups.{plain_words}
 use Rattle.rules.specs.Parameters.{one_over, param_of, with_eps_zero, with_edition, defaults}
 use Rattle.rules.specs.Outcome.{turned_away, on_paper}
@@ -28,7 +27,7 @@ use Rattle.rules.specs.Prepare.{fr_norm_by, prepared}
 use Rattle.rules.specs.Product.{block}
 use Rattle.rules.specs.Refusals.{too_large, solved, left_turned_away}
 use Rattle.rules.specs.Run.{WholeStep}
-use Rattle.rules.specs.Progress.{is_due, row_of, Log, untouched, log_row, log_step, with_log, logged_solved}
+use Rattle.rules.specs.Progress.{is_due, row_of, untouched, log_row, log_step, with_log, logged_solved}
 use Rattle.rules.specs.Demands.{with_period, due_up_to}
 use Rattle.rules.specs.Root.{root}
 

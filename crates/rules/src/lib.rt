@@ -33,13 +33,6 @@ pub enum Cone {
     PSD(usize),
 }
 
-// What a word of a plain cone list says.
-#[derive(Clone, Copy)]
-pub enum Word {
-    Block(Cone),
-    Bad,
-}
-
 // The most sweeps that Jacobi's method may be allowed.
 pub const MOST_SWEEPS: u64 = 64;
 
@@ -69,7 +62,7 @@ pub const MOST_WORDS: usize = 128;
 pub const MOST_DEEP: usize = 8;
 
 // The most places of a list of blocks: their rotations, at most MOST_SWEEPS a place, then fit 64 bits.
-pub const MOST_PLACES: usize = (18446744073709551615 / MOST_SWEEPS) as usize;
+pub const MOST_PLACES: usize = (u64::MAX / MOST_SWEEPS) as usize;
 
 // The parameters of a run.
 #[derive(Clone, Copy)]
@@ -93,117 +86,69 @@ impl SolverParam {
     pub const EPS_ZERO: f64 = 0.000000000001;
 
     // The default tolerances, with the limits that every run must name.
-    pub fn new(max_iter: u64, sweep_limit: u64) -> SolverParam
+    pub fn new(max_iter: u64, sweep_limit: u64) -> Self
         ensures { result ≡ defaults max_iter sweep_limit }
     {
-        SolverParam::of(
+        Self::of(
             max_iter,
-            SolverParam::EPS_ACC,
-            SolverParam::EPS_INF,
-            SolverParam::EPS_ZERO,
+            Self::EPS_ACC,
+            Self::EPS_INF,
+            Self::EPS_ZERO,
             sweep_limit,
         )
     }
 
     // The parameters with these limits and tolerances, no progress record, and edition one.
-    pub fn of(
-        max_iter: u64,
-        eps_acc: f64,
-        eps_inf: f64,
-        eps_zero: f64,
-        sweep_limit: u64,
-    ) -> SolverParam
+    pub fn of(max_iter: u64, eps_acc: f64, eps_inf: f64, eps_zero: f64, sweep_limit: u64) -> Self
         ensures { result ≡ param_of max_iter eps_acc eps_inf eps_zero sweep_limit }
     {
-        SolverParam::made(max_iter, eps_acc, eps_inf, eps_zero, sweep_limit, 0, 1)
-    }
-
-    // The same parameters but for eps_zero.
-    pub fn with_eps_zero(par: SolverParam, eps: f64) -> SolverParam
-        ensures { result ≡ with_eps_zero par eps }
-    {
-        SolverParam::made(
-            par.max_iter,
-            par.eps_acc,
-            par.eps_inf,
-            eps,
-            par.sweep_limit,
-            par.log_period,
-            par.edition,
-        )
-    }
-
-    // The same parameters but for log_period.
-    pub fn with_log_period(par: SolverParam, period: u32) -> SolverParam
-        ensures { result ≡ with_log_period par period }
-    {
-        SolverParam::made(
-            par.max_iter,
-            par.eps_acc,
-            par.eps_inf,
-            par.eps_zero,
-            par.sweep_limit,
-            period,
-            par.edition,
-        )
-    }
-
-    // The same parameters but for the edition.
-    pub fn with_edition(par: SolverParam, number: u32) -> SolverParam
-        ensures { result ≡ with_edition par number }
-    {
-        let zero = par.eps_zero;
-        SolverParam::made(
-            par.max_iter,
-            par.eps_acc,
-            par.eps_inf,
-            zero,
-            par.sweep_limit,
-            par.log_period,
-            number,
-        )
-    }
-
-    // All of them: the one place where parameters are made.
-    fn made(
-        max_iter: u64,
-        eps_acc: f64,
-        eps_inf: f64,
-        eps_zero: f64,
-        sweep_limit: u64,
-        log_period: u32,
-        edition: u32,
-    ) -> SolverParam
-        ensures { result ≡ param_made max_iter eps_acc eps_inf eps_zero sweep_limit log_period edition }
-    {
-        SolverParam {
+        Self {
             max_iter,
             eps_acc,
             eps_inf,
             eps_zero,
             sweep_limit,
-            log_period,
-            edition,
+            log_period: 0,
+            edition: 1,
         }
+    }
+
+    // The same parameters but for eps_zero.
+    pub fn with_eps_zero(self, eps_zero: f64) -> Self
+        ensures { result ≡ with_eps_zero self eps_zero }
+    {
+        Self { eps_zero, ..self }
+    }
+
+    // The same parameters but for log_period.
+    pub fn with_log_period(self, log_period: u32) -> Self
+        ensures { result ≡ with_log_period self log_period }
+    {
+        Self { log_period, ..self }
+    }
+
+    // The same parameters but for the edition.
+    pub fn with_edition(self, edition: u32) -> Self
+        ensures { result ≡ with_edition self edition }
+    {
+        Self { edition, ..self }
     }
 }
 
-// What projecting one block answers: the rotations that it took, or those after which its sweeps had
-// not ended, or a plain no.
+// What projecting one block comes to: the rotations that it took, or those after which its sweeps had not ended. It is no Result: the rotations
+// of both ends count. A routine that may answer a plain no answers an Option of it.
 #[derive(Clone, Copy)]
 pub enum Projection {
     Done(u64),
     Failed(u64),
-    No,
 }
 
-// What projecting a list of blocks answers: the rotations that it took, or the block that failed with
-// the rotations up to there, or a plain no.
+// What projecting a list of blocks comes to: the rotations that it took, or the block that failed with the rotations up to there, which count
+// too: no Result.
 #[derive(Clone, Copy)]
 pub enum Product {
     Done(u64),
     Failed(usize, u64),
-    No,
 }
 
 // How a run ends, with the criteria that decided it, or why the hub is turned away.
@@ -227,13 +172,6 @@ pub enum Ending {
     ConeFailure(usize),
 }
 
-// What the six tests say of a problem.
-#[derive(Clone, Copy)]
-pub enum Refusal {
-    Accepted,
-    Refused(Ending),
-}
-
 // The Frobenius norms of b and c.
 #[derive(Clone, Copy)]
 pub struct Norms {
@@ -248,13 +186,6 @@ pub enum Criteria {
     Conv(f64, f64, f64),
     // tau not above it: unbounded, infeasible
     Inf(f64, f64),
-}
-
-// Whether a run goes on after a step.
-#[derive(Clone, Copy)]
-pub enum Verdict {
-    GoesOn,
-    Ends(Ending),
 }
 
 // What a run answers: the ending, the steps k and the Jacobi rotations q.

@@ -11,8 +11,8 @@ use lib.Ieee.Bits.{of_bits-to_bits, of_bits-fits, to_bits-of_bits}
 use lib.ListN.{length, take, length-append}
 use Rattle.rules.proofs.Helpers.{only_nan}
 use Rattle.piece_rules.specs.declared.RunRecord.{RunRecord}
-use Rattle.run_record.specs.declared.ReadRecord.TheVariants.{Read, No}
-use Rattle.run_record.specs.Record.{pattern, record_words, word, number, parameters_in, record_of, is_pattern, are_patterns, is_record, record_in}
+use Rattle.std.specs.Prelude.{Some, None}
+use Rattle.run_record.specs.Record.{pattern, record_words, word, parameters_in, record_of, is_pattern, are_patterns, is_record, record_in}
 use Rattle.run_record.specs.RoundTrip.{AreWords, IsF64, Representable}
 use Rattle.run_record.proofs.Tests.{Passed, passed}
 use Rattle.run_record.proofs.Writing.{record_length}
@@ -99,7 +99,7 @@ module _ (r : RunRecord) (rest : List ℕ) (fit : Representable r) where
         ended = flag_back r.ended i;
       }
 
-  pub written_then_read : record_in (record_words r ++ rest) ≡ Read r
+  pub written_then_read : record_in (record_words r ++ rest) ≡ Some r
   unfolding record_in
   written_then_read = rw (passes, same_record)
 
@@ -159,29 +159,29 @@ record Reading (words : List ℕ) (r : RunRecord) : Type 0 where
   through : Passed words
   said : record_of words ≡ r
 
-read_so : (words : List ℕ) (r : RunRecord) → record_in words ≡ Read r → Reading words r
+read_so : (words : List ℕ) (r : RunRecord) → record_in words ≡ Some r → Reading words r
 unfolding record_in
 read_so words r e = go (is_record words) refl
   where
     go : (t : Bool) → is_record words ≡ t → Reading words r
-    go true t = let is : Read (record_of words) ≡ Read r = rw t at e in record { through = passed words t; said = cc }
-    go false f = let is : No ≡ Read r = rw f at e in let z : ◌≡◌ {A = ℕ} 0 1 = cc in absurd (omega arith)
+    go true t = let is : Some (record_of words) ≡ Some r = rw t at e in record { through = passed words t; said = cc }
+    go false f = let is : None ≡ Some r = rw f at e in let z : ◌≡◌ {A = ℕ} 0 1 = cc in absurd (omega arith)
 
-pub read_then_written : (words : List ℕ) (r : RunRecord) → AreWords words → record_in words ≡ Read r → record_words r ≡ take 21 words
+pub read_then_written : (words : List ℕ) (r : RunRecord) → AreWords words → record_in words ≡ Some r → record_words r ≡ take 21 words
 read_then_written words r below e =
     let s = read_so words r e in
     ap record_words (sym s.said) ∙ words_back words below s.through
 
 -- what is read is a record that can be written
-pub read_is_representable : (words : List ℕ) (r : RunRecord) → AreWords words → record_in words ≡ Read r → Representable r
+pub read_is_representable : (words : List ℕ) (r : RunRecord) → AreWords words → record_in words ≡ Some r → Representable r
 read_is_representable words r below e =
     let s = read_so words r e in
     rw s.said at (representable words below s.through)
 
 -- ---- where the reader says no, no record is written so
 
-pub no_is_no_record : (words : List ℕ) → record_in words ≡ No → (r : RunRecord) (rest : List ℕ) → Representable r → words ≡ record_words r ++ rest → ⊥
+pub no_is_no_record : (words : List ℕ) → record_in words ≡ None → (r : RunRecord) (rest : List ℕ) → Representable r → words ≡ record_words r ++ rest → ⊥
 no_is_no_record words none r rest fit is =
-    let said : record_in words ≡ Read r = rw is (written_then_read r rest fit) in
+    let said : record_in words ≡ Some r = rw is (written_then_read r rest fit) in
     let z : ◌≡◌ {A = ℕ} 0 1 = cc in
     omega arith

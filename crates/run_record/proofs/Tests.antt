@@ -1,8 +1,8 @@
 -- Laws of the tests of a record: what each of them decides, and what is known of words that pass them all.
 use Prim.Native.Nat.{ℕ, ◌^◌, ◌≤◌, ◌<◌}
-use borrow.Author.Tests.{leb-true, ltb-true, lt-leb, le-leb, lt-ltb, le-ltb}
+use borrow.Author.Tests.{leb-true, ltb-true}
 use mathlib.Core.Path.{◌≡◌}
-use mathlib.Core.Bool.{Bool, true, false, ◌&&◌}
+use mathlib.Core.Bool.{Bool, true, ◌&&◌}
 use mathlib.Core.List.{List}
 use lib.Dec.{leb, ltb}
 use lib.ListN.{length}
@@ -59,28 +59,3 @@ passed words t =
       ended = ltb-true _ _ s.3;
       patterns = are_patterns_lem words s.4;
     }
-
--- ---- the tests, in order
-
-module _ (words : List ℕ) where
-  pub too_few : length words < 21 → is_record words ≡ false
-  unfolding is_record
-  too_few few = rw (lt-leb 21 (length words) few)
-
-  pub long_period : 21 ≤ length words → 2 ^ 32 ≤ word words 11 → is_record words ≡ false
-  unfolding is_record
-  long_period enough h = rw (le-leb 21 (length words) enough, le-ltb (word words 11) (2 ^ 32) h)
-
-  pub long_edition : 21 ≤ length words → word words 11 < 2 ^ 32 → 2 ^ 32 ≤ word words 12 → is_record words ≡ false
-  unfolding is_record
-  long_edition enough p h = rw (le-leb 21 (length words) enough, lt-ltb (word words 11) (2 ^ 32) p, le-ltb (word words 12) (2 ^ 32) h)
-
-  pub no_flag : 21 ≤ length words → word words 11 < 2 ^ 32 → word words 12 < 2 ^ 32 → 2 ≤ word words 20 → is_record words ≡ false
-  unfolding is_record
-  no_flag enough p e h =
-      rw (le-leb 21 (length words) enough, lt-ltb (word words 11) (2 ^ 32) p, lt-ltb (word words 12) (2 ^ 32) e, le-ltb (word words 20) 2 h)
-
-  pub by_patterns : 21 ≤ length words → word words 11 < 2 ^ 32 → word words 12 < 2 ^ 32 → word words 20 < 2 → is_record words ≡ are_patterns words
-  unfolding is_record
-  by_patterns enough p e h =
-      rw (le-leb 21 (length words) enough, lt-ltb (word words 11) (2 ^ 32) p, lt-ltb (word words 12) (2 ^ 32) e, lt-ltb (word words 20) 2 h)

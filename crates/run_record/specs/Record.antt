@@ -1,12 +1,10 @@
 -- A run's record as 21 words of 64 bits: how it is written, and how it is read.
-use Rattle.std.specs.Prelude.{ℕ, ◌^◌, ◌≡◌, Bool, cond, not, ◌&&◌, ◌||◌, List, [], ◌∷◌, ◌++◌, leb, ltb, eqb, Float, length, drop, get_or}
+use Rattle.std.specs.Prelude.{ℕ, ◌^◌, ◌≡◌, Bool, cond, not, ◌&&◌, ◌||◌, List, [], ◌∷◌, ◌++◌, leb, ltb, eqb, Float, length, drop, get_or, Option, Some, None}
 use Rattle.std.specs.Float.{binary64}
 use Rattle.std.specs.Float.Ieee.{of_bits, to_bits, is_nan}
 use Rattle.rules.specs.declared.SolverParam.{SolverParam}
 use Rattle.rules.specs.Parameters.{param_made}
 use Rattle.piece_rules.specs.declared.RunRecord.{RunRecord}
-use Rattle.run_record.specs.declared.ReadRecord.{ReadRecord}
-use Rattle.run_record.specs.declared.ReadRecord.TheVariants.{Read, No}
 
 -- ---- how it is written
 
@@ -97,6 +95,6 @@ unfolding are_patterns
 is_record words =
     leb 21 (length words) && ltb (word words 11) (2 ^ 32) && ltb (word words 12) (2 ^ 32) && ltb (word words 20) 2 && are_patterns words
 
-unfoldable pub record_in : List ℕ → ReadRecord
+unfoldable pub record_in : List ℕ → Option RunRecord
 unfolding is_record record_of
-record_in words = cond (is_record words) (Read (record_of words)) No
+record_in words = cond (is_record words) (Some (record_of words)) None

@@ -10,20 +10,8 @@ use rules::{Norms, SolverParam};
 // How many words a record has.
 pub const RECORD_WORDS: usize = 21;
 
-// The record that words say, or a plain no.
-#[derive(Clone, Copy)]
-pub enum ReadRecord {
-    Read(RunRecord),
-    No,
-}
-
-fn flag_of(ended: bool) -> u64
-    ensures { result ≡ cond ended 1 0 }
-{
-    if ended { 1 } else { 0 }
-}
-
 // The words of a record.
+#[tactic(auto, unfolding(crate::specs::Record::record_words))]
 fn words_of(record: RunRecord) -> [u64; RECORD_WORDS]
     ensures { result ≡ record_words «record» }
 {
@@ -51,19 +39,8 @@ fn words_of(record: RunRecord) -> [u64; RECORD_WORDS]
         record.rotations,
         record.written,
         record.dropped,
-        flag_of(record.ended),
+        u64::from(record.ended),
     ]
-}
-
-// Puts a record's words at the start of others.
-fn put_words(from: &[u64], words: &mut [u64])
-    requires from_len { length from.now ≡ 21 }
-    requires in_bounds { 21 ≤ length words.old }
-    ensures { words.new ≡ from.now ++ drop 21 words.old }
-{
-    for i in 0..RECORD_WORDS {
-        words[i] = from[i];
-    }
 }
 
 // Writes a record into the first 21 words. It answers a plain no, and changes nothing, where there
@@ -75,82 +52,66 @@ pub fn write_record(record: RunRecord, words: &mut [u64]) -> bool
         return false;
     }
     let from = words_of(record);
-    put_words(&from, words);
+    words[..RECORD_WORDS].copy_from_slice(&from);
     true
 }
 
 // Whether a word is a number's pattern. A NaN's is 7ff8000000000000 and no other.
+#[tactic(auto, using(rules::proofs::Helpers::equals_itself), unfolding(crate::specs::Record::is_pattern))]
 fn is_pattern(word: u64) -> bool
     ensures { result ≡ is_pattern word }
 {
     let number = patterns::number_of(word);
-    if number == number {
-        return true;
-    }
-    word == 9221120237041090560
+    number == number || word == 9221120237041090560
 }
 
 // Whether all words are patterns that are to be.
+#[tactic(auto, unfolding(crate::specs::Record::are_patterns))]
 fn are_patterns(words: &[u64]) -> bool
     requires { 21 ≤ length words.now }
     ensures { result ≡ are_patterns words.now }
 {
-    if !is_pattern(words[7]) {
-        return false;
-    }
-    if !is_pattern(words[8]) {
-        return false;
-    }
-    if !is_pattern(words[9]) {
-        return false;
-    }
-    if !is_pattern(words[13]) {
-        return false;
-    }
-    if !is_pattern(words[14]) {
-        return false;
-    }
-    is_pattern(words[15])
+    is_pattern(words[7])
+        && is_pattern(words[8])
+        && is_pattern(words[9])
+        && is_pattern(words[13])
+        && is_pattern(words[14])
+        && is_pattern(words[15])
 }
 
 // Whether the first 21 words are those of a record.
+#[tactic(auto, unfolding(crate::specs::Record::is_record))]
 fn is_record(words: &[u64]) -> bool
     ensures { result ≡ is_record words.now }
 {
-    if RECORD_WORDS > words.len() {
-        return false;
-    }
-    if words[11] >= 4294967296 {
-        return false;
-    }
-    if words[12] >= 4294967296 {
-        return false;
-    }
-    if words[20] >= 2 {
-        return false;
-    }
-    are_patterns(words)
+    words.len() >= RECORD_WORDS
+        && words[11] < 4294967296
+        && words[12] < 4294967296
+        && words[20] < 2
+        && are_patterns(words)
 }
 
 // The parameters that words say.
+#[tactic(auto, unfolding(crate::specs::Record::parameters_in))]
 fn parameters_in(words: &[u64]) -> SolverParam
     requires in_bounds { 21 ≤ length words.now }
     requires words_bound { get_or words.now 11 0 < 4294967296 }
     requires words_bound_2 { get_or words.now 12 0 < 4294967296 }
     ensures { result ≡ parameters_in words.now }
 {
-    let par = SolverParam::of(
+    SolverParam::of(
         words[6],
         patterns::number_of(words[7]),
         patterns::number_of(words[8]),
         patterns::number_of(words[9]),
         words[10],
-    );
-    let logged = SolverParam::with_log_period(par, words[11] as u32);
-    SolverParam::with_edition(logged, words[12] as u32)
+    )
+    .with_log_period(words[11] as u32)
+    .with_edition(words[12] as u32)
 }
 
 // The record that words say.
+#[tactic(auto, unfolding(crate::specs::Record::record_of))]
 fn record_of(words: &[u64]) -> RunRecord
     requires in_bounds { 21 ≤ length words.now }
     requires words_bound { get_or words.now 11 0 < 4294967296 }
@@ -183,12 +144,13 @@ fn record_of(words: &[u64]) -> RunRecord
     }
 }
 
-// Reads the record of the first 21 words. It answers a plain no where no record is written so.
-pub fn read_record(words: &[u64]) -> ReadRecord
+// Reads the record of the first 21 words; none where no record is written so.
+#[tactic(auto, using(crate::proofs::Tests::passed), unfolding(crate::specs::Record::record_in))]
+pub fn read_record(words: &[u64]) -> Option<RunRecord>
     ensures { result ≡ record_in words.now }
 {
     if !is_record(words) {
-        return ReadRecord::No;
+        return None;
     }
-    ReadRecord::Read(record_of(words))
+    Some(record_of(words))
 }

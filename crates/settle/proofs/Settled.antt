@@ -1,15 +1,11 @@
 -- Laws of how an ending leaves work and cone work.
-use Prim.Native.Nat.{ℕ, ◌+◌}
+use Prim.Native.Nat.{ℕ}
 use mathlib.Core.Path.{◌≡◌, sym, ◌∙◌}
-use mathlib.Core.Bool.{Bool, true, false}
-use mathlib.Core.List.{List, ◌++◌}
+use mathlib.Core.Bool.{Bool, true}
+use mathlib.Core.List.{List}
 use borrow.Author.Tests.{leb-true, eqb-true, le-leb, eq-eqb}
 use lib.Ieee.{Float}
-use lib.ListN.{length, drop}
 use Rattle.rules.specs.declared.Ending.{Ending}
-use Rattle.rules.specs.Problem.{work_length}
-use Rattle.rules.specs.Prepare.{zeros}
-use Rattle.rules.specs.Run.{is_scaled, is_cone_failure, finished_x}
 use Rattle.rules.proofs.Matrices.{both_true}
 use Rattle.settle.specs.Settle.{settle_fits, Fitting, Settled, SettleOutcome}
 
@@ -42,31 +38,12 @@ module _ {m n : ℕ} {x y dp_tau dp_sigma rx tx work : List Float} where
   fitting_fits f =
       rw (le-leb _ _ f.m_within, le-leb _ _ f.n_within, eq-eqb _ _ f.x_long, eq-eqb _ _ f.y_long, eq-eqb _ _ f.tau_long, eq-eqb _ _ f.sigma_long, eq-eqb _ _ f.rx_long, eq-eqb _ _ f.tx_long, le-leb _ _ f.work_long)
 
-  -- what the two ways of the code come to
   module _ {e : Ending} {cone x' work' cone' : List Float} where
-    pub settled_failed : is_cone_failure e ≡ true → x' ≡ x → work' ≡ zeros (work_length m n) ++ drop (work_length m n) work → cone' ≡ zeros (length cone) → Settled m n x y dp_tau dp_sigma rx tx work e cone x' work' cone'
-    settled_failed failed kept cleared cone_cleared = record { x_left = rw failed kept; work_is = rw failed cleared; cone_is = rw failed cone_cleared }
-
-    pub settled_laid : is_cone_failure e ≡ false
-        → length x' + length y + length dp_tau + length dp_sigma + length rx + length tx ≡ work_length m n
-        → x' ≡ finished_x m n (is_scaled e) x
-        → work' ≡ x' ++ y ++ dp_tau ++ dp_sigma ++ rx ++ tx ++ drop (length x' + length y + length dp_tau + length dp_sigma + length rx + length tx) work
-        → cone' ≡ cone → Settled m n x y dp_tau dp_sigma rx tx work e cone x' work' cone'
-    settled_laid held total finished laid same =
-        let whole = rw total at laid in
-        record { x_left = rw held finished; work_is = rw (held, ← finished) whole; cone_is = rw held same }
-
-    pub settle_done : settle_fits m n x y dp_tau dp_sigma rx tx work ≡ true → Settled m n x y dp_tau dp_sigma rx tx work e cone x' work' cone' → SettleOutcome m n x y dp_tau dp_sigma rx tx work e cone true x' work' cone'
-    settle_done h s = record { answered = sym h; x_left = rw h s.x_left; work_left = rw h s.work_is; cone_left = rw h s.cone_is }
-
     -- for a caller whose lengths fit
     pub settled_if_fitting : {answer : Bool} → Fitting m n x y dp_tau dp_sigma rx tx work → SettleOutcome m n x y dp_tau dp_sigma rx tx work e cone answer x' work' cone' → Settled m n x y dp_tau dp_sigma rx tx work e cone x' work' cone'
     settled_if_fitting f o =
         let h = fitting_fits f in
         record { x_left = rw h at o.x_left; work_is = rw h at o.work_left; cone_is = rw h at o.cone_left }
-
-  pub settle_refused : {e : Ending} {cone : List Float} → settle_fits m n x y dp_tau dp_sigma rx tx work ≡ false → SettleOutcome m n x y dp_tau dp_sigma rx tx work e cone false x work cone
-  settle_refused h = record { answered = sym h; x_left = rw h; work_left = rw h; cone_left = rw h }
 
   pub settle_outcomes_coincide : {e : Ending} {cone : List Float} {a b : Bool} {xa xb wa wb ca cb : List Float} → SettleOutcome m n x y dp_tau dp_sigma rx tx work e cone a xa wa ca → SettleOutcome m n x y dp_tau dp_sigma rx tx work e cone b xb wb cb → (a ≡ b) × (xa ≡ xb) × (wa ≡ wb) × (ca ≡ cb)
   settle_outcomes_coincide p q = (p.answered ∙ sym q.answered, p.x_left ∙ sym q.x_left, p.work_left ∙ sym q.work_left, p.cone_left ∙ sym q.cone_left)

@@ -12,8 +12,8 @@ pub(crate) fn finish(m: usize, n: usize, by_tau: bool, x: &mut [f64])
     if by_tau {
         let end = n + m;
         let by = 1.0 / x[end + m];
-        for i in 0..end {
-            x[i] = by * x[i];
+        for v in x[..end].iter_mut() {
+            *v = by * *v;
         }
     }
 }
@@ -49,10 +49,11 @@ pub(crate) fn lay_out(
     copy_to(tx, to_tx, work);
 }
 
+#[tactic(auto, unfolding(crate::specs::Parts::copied_to))]
 fn copy_to(v: &[f64], start: usize, work: &mut [f64])
     requires { start + length v.now ≤ length work.old }
     ensures { work.new ≡ copied_to start v.now work.old }
 {
     let end = start + v.len();
-    linalg::copy(v, &mut work[start..end]);
+    work[start..end].copy_from_slice(v);
 }

@@ -12,6 +12,7 @@ use rules::{Cols, Ending, LIMIT, Rows};
 // first multiplied by 1/tau, in x itself. After a cone's failure x is kept, and the required part of work, and all of cone
 // work, become +0. An ending that is a refusal, which no run ends by, is laid out unscaled. Where a length or a size
 // doesn't fit, it answers no and changes nothing.
+#[tactic(auto, unfolding(crate::specs::Settle::settle_fits))]
 pub fn settle(
     rows: Rows,
     cols: Cols,
@@ -29,11 +30,9 @@ pub fn settle(
         dp_sigma.now rx.now tx.now work.old ending
         cone_work.old result x.new work.new cone_work.new }
 {
-    let m = rows.0;
-    let n = cols.0;
-    if !settle_fits(
-        m,
-        n,
+    if !sizes_fit(
+        rows,
+        cols,
         x.len(),
         y.len(),
         dp_tau.len(),
@@ -45,49 +44,9 @@ pub fn settle(
         return false;
     }
     settle_in(
-        m, n, ending, x, y, dp_tau, dp_sigma, rx, tx, work, cone_work,
+        rows.0, cols.0, ending, x, y, dp_tau, dp_sigma, rx, tx, work, cone_work,
     );
     true
-}
-
-fn settle_fits(
-    m: usize,
-    n: usize,
-    x: usize,
-    y: usize,
-    dp_tau: usize,
-    dp_sigma: usize,
-    rx: usize,
-    tx: usize,
-    work: usize,
-) -> bool
-    ensures { result ≡ settle_lengths_fit m n x y dp_tau dp_sigma rx tx work }
-{
-    if LIMIT < m {
-        return false;
-    }
-    if LIMIT < n {
-        return false;
-    }
-    if x != n + m + m + 1 {
-        return false;
-    }
-    if y != n + m + 1 {
-        return false;
-    }
-    if dp_tau != n + m + m + 1 {
-        return false;
-    }
-    if dp_sigma != n + m + 1 {
-        return false;
-    }
-    if rx != n + m + m + 1 {
-        return false;
-    }
-    if tx != n + m + m + 1 {
-        return false;
-    }
-    6 * n + 10 * m + 6 <= work
 }
 
 // Whether the sizes are within the limits, each vector has its length and work is long enough for all six.
@@ -104,7 +63,17 @@ pub fn sizes_fit(
 ) -> bool
     ensures { result ≡ settle_lengths_fit rows.0 cols.0 x y dp_tau dp_sigma rx tx work }
 {
-    settle_fits(rows.0, cols.0, x, y, dp_tau, dp_sigma, rx, tx, work)
+    let m = rows.0;
+    let n = cols.0;
+    m <= LIMIT
+        && n <= LIMIT
+        && x == n + m + m + 1
+        && y == n + m + 1
+        && dp_tau == n + m + m + 1
+        && dp_sigma == n + m + 1
+        && rx == n + m + m + 1
+        && tx == n + m + m + 1
+        && 6 * n + 10 * m + 6 <= work
 }
 
 fn settle_in(
@@ -127,11 +96,11 @@ fn settle_in(
 {
     if verdict::is_cone_failure(ending) {
         clear_front(m, n, work);
-        linalg::clear(cone_work);
-        return;
+        cone_work.fill(0.0);
+    } else {
+        parts::finish(m, n, verdict::is_scaled(ending), x);
+        parts::lay_out(x, y, dp_tau, dp_sigma, rx, tx, work);
     }
-    parts::finish(m, n, verdict::is_scaled(ending), x);
-    parts::lay_out(x, y, dp_tau, dp_sigma, rx, tx, work);
 }
 
 // The required part of work becomes +0.
@@ -141,5 +110,5 @@ fn clear_front(m: usize, n: usize, work: &mut [f64])
     ensures { work.new ≡ zeros (work_length m n) ++ drop (work_length m n) work.old }
 {
     let required = 6 * n + 10 * m + 6;
-    linalg::clear(&mut work[0..required]);
+    work[..required].fill(0.0);
 }

@@ -14,8 +14,8 @@ pub fn put_sums(alpha: f64, sums: &[f64], beta: f64, y: &mut [f64]) -> bool
     if sums.len() != y.len() {
         return false;
     }
-    for k in 0..y.len() {
-        y[k] = alpha * sums[k] + beta * y[k];
+    for (k, v) in y.iter_mut().enumerate() {
+        *v = alpha * sums[k] + beta * *v;
     }
     true
 }

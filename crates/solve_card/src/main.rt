@@ -4,7 +4,6 @@
 #![tactic(auto)]
 
 use card_file::ENOUGH;
-use card_input::Input;
 use std::rt::Runtime;
 
 fn main(rt: HostRuntime) {
@@ -16,7 +15,7 @@ fn main(rt: HostRuntime) {
 
 fn solve_argument<R: Runtime>(rt: &R, i: usize) {
     let mut bytes = [0u8; ENOUGH];
-    if let Input::Read(length) = card_input::read_argument(rt, i, &mut bytes) {
+    if let Some(length) = card_input::read_argument(rt, i, &mut bytes) {
         solve(rt, &bytes[..length]);
     }
 }

@@ -8,7 +8,6 @@ use mathlib.Core.List.{List, [], ◌++◌, append-nil}
 use borrow.Author.Tests.{le-leb, eq-eqb}
 use lib.Ieee.{Float}
 use lib.ListN.{length, take, drop, replicate}
-use lib.Seq.{length-take-le}
 use Rattle.rules.specs.declared.Logged.{Logged}
 use Rattle.rules.specs.declared.Ending.{Ending}
 use Rattle.rules.specs.declared.Shape.{Shape}
@@ -18,25 +17,22 @@ use Rattle.rules.specs.declared.SolverParam.{SolverParam}
 use Rattle.rules.specs.Arithmetic.{+0}
 use Rattle.rules.specs.Limits.{limit, most_words}
 use Rattle.rules.specs.Matrices.{triangle, stored_length}
-use Rattle.rules.specs.Blocks.{blocks_of}
 use Rattle.rules.specs.Groups.{plain_words}
 use Rattle.rules.specs.Projections.{sweeps_fit}
 use Rattle.rules.specs.Product.{cone_work}
 use Rattle.rules.specs.Problem.{Problem, Slices, slices, as_read, blocks, matrix_of, length_x, length_y, problem_of, problem_in}
 use Rattle.rules.specs.Run.{left_by}
-use Rattle.rules.specs.declared.Refusal.{Refusal}
-use Rattle.rules.specs.declared.Refusal.TheVariants.{Accepted, Refused}
-use Rattle.rules.specs.Refusals.{refusal, is_packed, read_problem}
+use Rattle.rules.specs.Refusals.{Refusal, Accepted, Refused, refusal, is_packed, read_problem}
 use Rattle.rules.specs.Split.{SplitProblem, split_of, slices_fit, joined_problem, split_refusal}
 use Rattle.rules.specs.Progress.{LoggedLeft, LoggedAs, LoggedOutcome, SplitLoggedOutcome}
 use Rattle.rules.proofs.SplitRuns.{same_refusal, slices_fit_if_accepted}
 use Rattle.rules.proofs.LoggedRuns.{logged_accepted, refused_records_nothing, split_logged_as_joined, split_refused_records_nothing}
 use Rattle.rules.proofs.Refusals.{none_holds}
 use Rattle.rules.proofs.Accepted.{AllFits, sizes_fit, accepted_fits}
-use Rattle.rules.proofs.Parts.{put, from_start, zeros-part}
+use Rattle.std.proofs.lemmas.List.{take-replicate}
 use Rattle.shape.specs.Fitting.{parts_in, parts_fit}
 use Rattle.shape.proofs.Fitting.{sized_of}
-use Rattle.solver.specs.Solve.{turned_away_by, Taken, Handed, left_logged, Lent, AtZero, RanIn}
+use Rattle.solver.specs.Solve.{turned_away_by, Taken, Handed, left_logged, AtZero, RanIn}
 
 -- what is left as this rule says, where it is that one
 left_by_lem : {one other : LoggedLeft} {answer : Logged} {work cone log : List Float} → one ≡ other → LoggedAs other answer work cone log → LoggedAs one answer work cone log
@@ -143,25 +139,14 @@ module _ (m n n1 : ℕ) (c factory lesson b : List Float) (words : List ℕ) (pa
 
 -- ---- an accepted run with vectors of its own
 
-part_is : (needed : ℕ) (cone : List Float) → needed ≤ length cone → length (take (needed - 0) (drop 0 cone)) ≡ needed
-part_is needed cone h = rw (from_start needed) (length-take-le needed cone h)
-
-pub needed_fits : (shape : Shape) (c : List Float) (a : Slices) (b : List Float) (words : List ℕ) (par : SolverParam) (work cone : List Float) → Taken shape c a b words par work cone → (needed : ℕ) → needed ≡ cone_work (blocks_of words) → needed ≤ length cone
-needed_fits shape c a b words par work cone t needed e = rw e t.cone_long
-
-pub lent : (shape : Shape) (c : List Float) (a : Slices) (b : List Float) (words : List ℕ) (par : SolverParam) (work cone : List Float) → Taken shape c a b words par work cone → (needed : ℕ) → needed ≡ cone_work (blocks_of words) → Lent shape c a b words par work (take (needed - 0) (drop 0 cone))
-lent shape c a b words par work cone t needed e =
-    let h = needed_fits shape c a b words par work cone t needed e in
-    record { ready = t.ready; steps = t.steps; work_long = t.work_long; cone_long = part_is needed cone h ∙ e }
-
-pub left_as : (p : Problem) (work cone log : List Float) (needed : ℕ) → needed ≡ cone_work (blocks p) → (answer : Logged) (work' cone' log' : List Float) → RanIn p work log answer work' cone' log' → LoggedAs (left_logged p work cone log) answer work' (put 0 needed cone cone') log'
+pub left_as : (p : Problem) (work cone log : List Float) (needed : ℕ) → needed ≡ cone_work (blocks p) → (answer : Logged) (work' cone' log' : List Float) → RanIn p work log answer work' cone' log' → LoggedAs (left_logged p work cone log) answer work' (cone' ++ drop needed cone) log'
 unfolding left_by
 left_as p work cone log needed e answer work' cone' log' r =
-    record { answered = r.answered; work_left = r.work_is; cone_left = rw (from_start needed, e, r.cone_is); log_left = r.log_is }
+    record { answered = r.answered; work_left = r.work_is; cone_left = rw (e, r.cone_is); log_left = r.log_is }
 
 pub at_zero : (shape : Shape) → shape.rows.0 ≤ limit → shape.cols.0 ≤ limit → (long_x long_y : ℕ) → long_x ≡ 3 * limit + 1 → long_y ≡ 2 * limit + 1
-    → (let x = take (length_x shape.rows.0 shape.cols.0 - 0) (drop 0 (replicate long_x +0)) in let y = take (length_y shape.rows.0 shape.cols.0 - 0) (drop 0 (replicate long_y +0)) in AtZero shape x y x y x x)
+    → (let x = take (length_x shape.rows.0 shape.cols.0) (replicate long_x +0) in let y = take (length_y shape.rows.0 shape.cols.0) (replicate long_y +0) in AtZero shape x y x y x x)
 at_zero shape hm hn long_x long_y x y =
-    let fx = zeros-part (length_x shape.rows.0 shape.cols.0) long_x (omega arith) in
-    let fy = zeros-part (length_y shape.rows.0 shape.cols.0) long_y (omega arith) in
+    let fx = take-replicate (length_x shape.rows.0 shape.cols.0) long_x +0 (omega arith) in
+    let fy = take-replicate (length_y shape.rows.0 shape.cols.0) long_y +0 (omega arith) in
     record { x_zero = fx; y_zero = fy; tau_zero = fx; sigma_zero = fy; rx_zero = fx; tx_zero = fx }

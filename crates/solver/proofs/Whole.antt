@@ -6,6 +6,8 @@ use mathlib.Core.Bool.{Bool, true, false, cond}
 use mathlib.Core.List.{List, ◌++◌}
 use borrow.Author.Tests.{eq-eqb}
 use lib.Ieee.{Float}
+use Rattle.std.specs.Prelude.{Option, Some}
+use Rattle.std.specs.Option.{is_some, unwrap_or}
 use lib.ListN.{length, drop, length-replicate}
 use Rattle.rules.specs.declared.Logged.{Logged}
 use Rattle.rules.specs.Arithmetic.{+0}
@@ -14,27 +16,21 @@ use Rattle.rules.specs.Product.{cone_work}
 use Rattle.rules.specs.Problem.{Problem, Slices, embed, problem_in, blocks, length_x, length_y, work_length}
 use Rattle.rules.specs.declared.Ending.{Ending}
 use Rattle.rules.specs.declared.Ending.TheVariants.{ConeFailure}
-use Rattle.rules.specs.declared.Verdict.{Verdict}
-use Rattle.rules.specs.declared.Verdict.TheVariants.{GoesOn, Ends}
 use Rattle.rules.specs.declared.Norms.{Norms}
 use Rattle.rules.specs.declared.Shape.{Shape}
 use Rattle.rules.specs.declared.SolverParam.{SolverParam}
 use Rattle.rules.specs.Prepare.{norms, prepared, prepared_norms, zeros}
-use Rattle.rules.specs.Run.{Piece, ended_by, run, laid_out, is_cone_failure}
+use Rattle.rules.specs.Run.{Verdict, GoesOn, Ends, ending_of, Piece, ended_by, run, laid_out, is_cone_failure}
 use Rattle.rules.specs.Progress.{Log, log_after}
 use Rattle.rules.proofs.Run.{run_is}
 use Rattle.rules.proofs.Parts.{from_start}
 use Rattle.rules.proofs.Lengths.{prepared-sized}
 use Rattle.shape.specs.Fitting.{LikeX, LikeY}
 use Rattle.precond.specs.Precond.{Covers}
-use Rattle.prepare.specs.declared.Prepared.{Prepared}
-use Rattle.prepare.specs.declared.Prepared.TheVariants.{Done, No}
 use Rattle.prepare.specs.Prepare.{prepare_fits, PreparedOutcome}
 use Rattle.prepare.proofs.Outcomes.{PreparedBy, prepared_where_fits}
 use Rattle.step.specs.Update.{state_of, step_fits, StepReady}
 use Rattle.iterate.specs.declared.Iterated.{Iterated}
-use Rattle.iterate.specs.declared.Iterated.TheVariants.{Made, No as NoRun}
-use Rattle.iterate.specs.declared.RowCounts.{RowCounts}
 use Rattle.iterate.specs.Iterate.{piece_of, record_of, counts_of, IterateOutcome}
 use Rattle.iterate.proofs.Outcomes.{RanBy, ran_where_fits}
 use Rattle.settle.specs.Settle.{Settled, SettleOutcome}
@@ -75,7 +71,7 @@ cleared_long {cone = cone} l e = rw e (length-replicate (length cone) +0) ∙ l.
 pub covers : {shape : Shape} {c : List Float} {a : Slices} {b : List Float} {words : List ℕ} {par : SolverParam} → Ready shape c a b words par → Covers shape words
 covers {shape} {words = words} r = record { is = good_list words shape.rows.0 r.readable r.places }
 
-module _ {shape : Shape} {c : List Float} (a : Slices) {b : List Float} {words : List ℕ} {par : SolverParam} {x y dp_tau dp_sigma rx tx : List Float} {answer : Prepared} {x' y' dp_tau' dp_sigma' : List Float} (z : AtZero shape x y dp_tau dp_sigma rx tx) (q : PreparedBy (problem_in shape c a b words par) x y dp_tau answer x' y' dp_tau' dp_sigma') where
+module _ {shape : Shape} {c : List Float} (a : Slices) {b : List Float} {words : List ℕ} {par : SolverParam} {x y dp_tau dp_sigma rx tx : List Float} {answer : Option Norms} {x' y' dp_tau' dp_sigma' : List Float} (z : AtZero shape x y dp_tau dp_sigma rx tx) (q : PreparedBy (problem_in shape c a b words par) x y dp_tau answer x' y' dp_tau' dp_sigma') where
   abbrev p : Problem
   p = problem_in shape c a b words par
 
@@ -128,7 +124,7 @@ module _ {shape : Shape} {c : List Float} (a : Slices) {b : List Float} {words :
 
 -- ---- after the last step
 
-module _ {p : Problem} {e : Piece} {r : Log} {ran : Iterated} {answer : Logged} {x y dp_tau dp_sigma rx tx cone work log x' work' cone' log' : List Float} (whole : run p ≡ ended_by e) (logged : r ≡ log_after p log (run p).steps) (i : RanBy e r ran (state_of x y dp_tau dp_sigma rx tx cone) log') (same : answer ≡ answer_by e.said e.steps e.rotations (counts_of r)) (n : length cone ≡ cone_work (blocks p)) (b : Settled p.m p.n x y dp_tau dp_sigma rx tx work answer.answer.ending cone x' work' cone') where
+module _ {p : Problem} {e : Piece} {r : Log} {ran : Option Iterated} {answer : Logged} {x y dp_tau dp_sigma rx tx cone work log x' work' cone' log' : List Float} (whole : run p ≡ ended_by e) (logged : r ≡ log_after p log (run p).steps) (i : RanBy e r ran (state_of x y dp_tau dp_sigma rx tx cone) log') (same : answer ≡ answer_by e.said e.steps e.rotations (counts_of r)) (n : length cone ≡ cone_work (blocks p)) (b : Settled p.m p.n x y dp_tau dp_sigma rx tx work answer.answer.ending cone x' work' cone') where
   ran_in : RanIn p work log answer work' cone' log'
   ran_in = go (is_cone_failure (run p).ending) refl
     where
@@ -155,59 +151,52 @@ module _ {p : Problem} {e : Piece} {r : Log} {ran : Iterated} {answer : Logged} 
 
 -- ---- all of it: cleared, prepared, stepped and settled
 
-module _ {shape : Shape} {c : List Float} {a : Slices} {b : List Float} {words : List ℕ} {par : SolverParam} {x y tau sigma rx tx : List Float} {prepared_as : Prepared} {x₁ y₁ tau₁ sigma₁ work cone cone₁ : List Float} {ns : Norms} {ran : Iterated} {x₂ y₂ rx₂ tx₂ cone₂ log log' : List Float} {answer : Logged} {fits : Bool} {x₃ work' cone' : List Float} where
-  pub run-whole : Lent shape c a b words par work cone → AtZero shape x y tau sigma rx tx
-      → cone₁ ≡ zeros (length cone)
-      → PreparedOutcome (prepare_fits shape c a b words x y tau sigma) (problem_in shape c a b words par) x y tau sigma prepared_as x₁ y₁ tau₁ sigma₁ → ((n : Norms) → prepared_as ≡ Done n → ns ≡ n)
-      → IterateOutcome (step_fits par shape c a b words (state_of x₁ y₁ tau₁ sigma₁ rx tx cone₁)) (problem_in shape c a b words par) ns 0 par.max_iter (state_of x₁ y₁ tau₁ sigma₁ rx tx cone₁) log ran (state_of x₂ y₂ tau₁ sigma₁ rx₂ tx₂ cone₂) log'
-      → ((said : Verdict) (k q : ℕ) (counts : RowCounts) → ran ≡ Made said k q counts → answer ≡ answer_by said k q counts)
-      → SettleOutcome shape.rows.0 shape.cols.0 x₂ y₂ tau₁ sigma₁ rx₂ tx₂ work answer.answer.ending cone₂ fits x₃ work' cone'
-      → length x₂ ≡ length x₁ → length y₂ ≡ length y₁ → length rx₂ ≡ length rx → length tx₂ ≡ length tx → length cone₂ ≡ length cone₁
-      → RanIn (problem_in shape c a b words par) work log answer work' cone' log'
-  run-whole lent z cleared prepares norms_are steps answers settles kept_x kept_y kept_rx kept_tx kept_cone =
-      let r = lent.ready in
-      let q = prepared_where_fits prepares r.operators (covers r) (zero_x z) (zero_y z) (zero_tau z) (zero_sigma z) in
-      let i = ran_where_fits steps (ready_to_step a z q lent cleared) in
-      let whole = whole_run a z q lent cleared (norms_are _ q.answer_is) in
-      let logged = whole_log a z q log lent cleared (norms_are _ q.answer_is) in
-      ran_in whole logged i (answers _ _ _ _ i.answer_is) (kept_cone ∙ cleared_long lent cleared) (settled_if_fitting
-      (record {
-        m_within = r.operators.m_within;
-        n_within = r.operators.n_within;
-        x_long = kept_x ∙ (prepared_x a z q).is;
-        y_long = kept_y ∙ (prepared_y a z q).is;
-        tau_long = (prepared_tau a z q).is;
-        sigma_long = (prepared_sigma a z q).is;
-        rx_long = kept_rx ∙ (zero_rx z).is;
-        tx_long = kept_tx ∙ (zero_tx z).is;
-        work_long = lent.work_long;
-      })
-      settles)
+once : {A : Type 0} {v w : A} → Some v ≡ Some w → v ≡ w
+once e = cc
 
--- ---- what an answer holds
+-- the ending, where none stands for that of a piece that has none
+ended : (said : Verdict) → unwrap_or said (ConeFailure 0) ≡ ending_of said
+ended GoesOn = refl
+ended (Ends e) = refl
 
-pub done_once : {v w : Norms} → Done v ≡ Done w → v ≡ w
-done_once e = cc
+module _ {shape : Shape} {c : List Float} {a : Slices} {b : List Float} {words : List ℕ} {par : SolverParam} {x y tau sigma rx tx : List Float} {prepared_as : Option Norms} {x₁ y₁ tau₁ sigma₁ work cone : List Float} (lent : Lent shape c a b words par work cone) (z : AtZero shape x y tau sigma rx tx) (prepares : PreparedOutcome (prepare_fits shape c a b words x y tau sigma) (problem_in shape c a b words par) x y tau sigma prepared_as x₁ y₁ tau₁ sigma₁) where
+  prepared_by : PreparedBy (problem_in shape c a b words par) x y tau prepared_as x₁ y₁ tau₁ sigma₁
+  prepared_by = let r = lent.ready in prepared_where_fits prepares r.operators (covers r) (zero_x z) (zero_y z) (zero_tau z) (zero_sigma z)
 
-pub none_done : {v : Norms} → No ≡ Done v → ⊥
-none_done e = let z : ◌≡◌ {A = ℕ} 0 1 = cc in omega arith
+  pub run_prepares : is_some prepared_as ≡ true
+  run_prepares = rw prepared_by.answer_is
 
--- of a piece that ended, of one that halted, and of none
-pub answer_ends : {v w : Verdict} {k q l r : ℕ} {counts counts' : RowCounts} {x : Ending} → Made v k q counts ≡ Made w l r counts' → v ≡ Ends x → logged_by x k q counts ≡ answer_by w l r counts'
-answer_ends {v} {w} {k} {q} {l} {r} {counts} {counts'} {x} h is =
-    let said_is : w ≡ Ends x = cc in
-    let steps_are : k ≡ l = cc in
-    let rotations_are : q ≡ r = cc in
-    let counts_are : counts ≡ counts' = cc in
-    rw (said_is, steps_are, rotations_are, counts_are)
+  module _ {ns : Norms} (norms_are : prepared_as ≡ Some ns) {cone₁ : List Float} (cleared : cone₁ ≡ zeros (length cone)) {ran_as : Option Iterated} {x₂ y₂ rx₂ tx₂ cone₂ log log' : List Float}
+      (steps : IterateOutcome (step_fits par shape c a b words (state_of x₁ y₁ tau₁ sigma₁ rx tx cone₁)) (problem_in shape c a b words par) ns 0 par.max_iter (state_of x₁ y₁ tau₁ sigma₁ rx tx cone₁) log ran_as (state_of x₂ y₂ tau₁ sigma₁ rx₂ tx₂ cone₂) log') where
+    abbrev all : Piece
+    all = piece_of (problem_in shape c a b words par) ns 0 par.max_iter (state_of x₁ y₁ tau₁ sigma₁ rx tx cone₁)
 
-pub answer_halts : {v w : Verdict} {k q l r : ℕ} {counts counts' : RowCounts} → Made v k q counts ≡ Made w l r counts' → v ≡ GoesOn → logged_by (ConeFailure 0) k q counts ≡ answer_by w l r counts'
-answer_halts {v} {w} {k} {q} {l} {r} {counts} {counts'} h is =
-    let said_is : w ≡ GoesOn = cc in
-    let steps_are : k ≡ l = cc in
-    let rotations_are : q ≡ r = cc in
-    let counts_are : counts ≡ counts' = cc in
-    rw (said_is, steps_are, rotations_are, counts_are)
+    ran_by : RanBy all (record_of (problem_in shape c a b words par) ns 0 par.max_iter (state_of x₁ y₁ tau₁ sigma₁ rx tx cone₁) log) ran_as (state_of x₂ y₂ tau₁ sigma₁ rx₂ tx₂ cone₂) log'
+    ran_by = ran_where_fits steps (ready_to_step a z prepared_by lent cleared)
 
-pub none_made : {v : Verdict} {k q : ℕ} {counts : RowCounts} → NoRun ≡ Made v k q counts → ⊥
-none_made e = let z : ◌≡◌ {A = ℕ} 0 1 = cc in omega arith
+    pub run_iterates : is_some ran_as ≡ true
+    run_iterates = rw ran_by.answer_is
+
+    pub run-whole : {ran : Iterated} → ran_as ≡ Some ran → {ending : Ending} → ending ≡ unwrap_or ran.said (ConeFailure 0) → {fits : Bool} {x₃ work' cone' : List Float}
+        → SettleOutcome shape.rows.0 shape.cols.0 x₂ y₂ tau₁ sigma₁ rx₂ tx₂ work ending cone₂ fits x₃ work' cone'
+        → length x₂ ≡ length x₁ → length y₂ ≡ length y₁ → length rx₂ ≡ length rx → length tx₂ ≡ length tx → length cone₂ ≡ length cone₁
+        → RanIn (problem_in shape c a b words par) work log (logged_by ending ran.steps ran.rotations ran.rows) work' cone' log'
+    run-whole {ran} ran_is {ending} ending_is settles kept_x kept_y kept_rx kept_tx kept_cone =
+        let r = lent.ready in
+        let q = prepared_by in
+        let norms_is = once (sym norms_are ∙ q.answer_is) in
+        let same = once (sym ran_is ∙ ran_by.answer_is) in
+        let answered : logged_by ending ran.steps ran.rotations ran.rows ≡ logged_by (ending_of all.said) all.steps all.rotations _ = rw (ending_is, same, ended all.said) in
+        ran_in (whole_run a z q lent cleared norms_is) (whole_log a z q log lent cleared norms_is) ran_by answered (kept_cone ∙ cleared_long lent cleared) (settled_if_fitting
+        (record {
+          m_within = r.operators.m_within;
+          n_within = r.operators.n_within;
+          x_long = kept_x ∙ (prepared_x a z q).is;
+          y_long = kept_y ∙ (prepared_y a z q).is;
+          tau_long = (prepared_tau a z q).is;
+          sigma_long = (prepared_sigma a z q).is;
+          rx_long = kept_rx ∙ (zero_rx z).is;
+          tx_long = kept_tx ∙ (zero_tx z).is;
+          work_long = lent.work_long;
+        })
+        settles)

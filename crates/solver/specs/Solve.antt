@@ -5,7 +5,6 @@ use Rattle.rules.specs.declared.Ending.{Ending}
 use Rattle.rules.specs.declared.Logged.{Logged}
 use Rattle.rules.specs.declared.Shape.{Shape}
 use Rattle.rules.specs.declared.SolverParam.{SolverParam}
-use Rattle.rules.specs.declared.Verdict.{Verdict}
 use Rattle.rules.specs.Limits.{most_words, most_steps}
 use Rattle.rules.specs.Blocks.{has_bad_word, blocks_of, total_places}
 use Rattle.rules.specs.Groups.{plain_words}
@@ -13,7 +12,7 @@ use Rattle.rules.specs.Projections.{sweeps_fit}
 use Rattle.rules.specs.Product.{cone_work}
 use Rattle.rules.specs.Problem.{Problem, Slices, blocks, length_x, length_y, work_length}
 use Rattle.rules.specs.Prepare.{zeros}
-use Rattle.rules.specs.Run.{ending_of, Ended, run, laid_out, is_cone_failure, left_by}
+use Rattle.rules.specs.Run.{Verdict, ending_of, Ended, run, laid_out, is_cone_failure, left_by}
 use Rattle.rules.specs.Progress.{LoggedLeft, with_log, log_after}
 use Rattle.shape.specs.Fitting.{Fits}
 use Rattle.iterate.specs.declared.RowCounts.{RowCounts}

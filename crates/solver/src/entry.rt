@@ -8,9 +8,7 @@ ghost use Rattle.rules.specs.Progress.{LoggedAs, LoggedOutcome, SplitLoggedOutco
 ghost use Rattle.solver.specs.Solve.{turned_away_by, Handed, left_logged};
 
 use crate::solving;
-use rules::{
-    Answer, Cols, Ending, LIMIT, Logged, MOST_WORDS, Refusal, Rows, Shape, SolverParam, Storage,
-};
+use rules::{Answer, Cols, Ending, LIMIT, Logged, MOST_WORDS, Rows, Shape, SolverParam, Storage};
 
 // The longest x and the longest y.
 const LONG_X: usize = 3 * LIMIT + 1;
@@ -63,7 +61,7 @@ pub fn solve_logged(
         work.old cone_work.old log.old
         result work.new cone_work.new log.new }
 {
-    let found = checks::check(
+    let checked = checks::check(
         par,
         rows,
         cols,
@@ -75,9 +73,9 @@ pub fn solve_logged(
         work.len(),
         cone_work.len(),
     );
-    match found {
-        Refusal::Refused(e) => turned_away(e),
-        Refusal::Accepted => {
+    match checked {
+        Err(ending) => turned_away(ending),
+        Ok(()) => {
             let shape = Shape {
                 rows,
                 cols,
@@ -148,7 +146,7 @@ pub fn solve_split_logged<'a>(
         work.old cone_work.old log.old
         result work.new cone_work.new log.new }
 {
-    let found = checks::check_split(
+    let checked = checks::check_split(
         par,
         rows,
         cols,
@@ -161,9 +159,9 @@ pub fn solve_split_logged<'a>(
         work.len(),
         cone_work.len(),
     );
-    match found {
-        Refusal::Refused(e) => turned_away(e),
-        Refusal::Accepted => {
+    match checked {
+        Err(ending) => turned_away(ending),
+        Ok(()) => {
             let shape = Shape {
                 rows,
                 cols,
@@ -187,12 +185,12 @@ pub fn solve_split_logged<'a>(
 }
 
 // The answer to a problem that is turned away: no step was taken, and no row was written.
-fn turned_away(e: Ending) -> Logged
-    ensures { result ≡ turned_away_by e }
+fn turned_away(ending: Ending) -> Logged
+    ensures { result ≡ turned_away_by ending }
 {
     Logged {
         answer: Answer {
-            ending: e,
+            ending,
             steps: 0,
             rotations: 0,
         },
@@ -227,8 +225,8 @@ fn accepted<'a>(
     let nx = n + m + m + 1;
     let ny = n + m + 1;
     let mut plain = [0u16; MOST_WORDS];
-    let flattened = groups::flatten(words, &mut plain);
-    let count = groups::count_of(flattened);
+    // no list that was accepted has more words
+    let count = groups::flatten(words, &mut plain).unwrap();
     let needed = words::cone_work_len(&plain[..count]);
     let mut x = [0.0; LONG_X];
     let mut y = [0.0; LONG_Y];
@@ -244,14 +242,14 @@ fn accepted<'a>(
         a2,
         b,
         &plain[..count],
-        &mut x[0..nx],
-        &mut y[0..ny],
-        &mut dp_tau[0..nx],
-        &mut dp_sigma[0..ny],
-        &mut rx[0..nx],
-        &mut tx[0..nx],
+        &mut x[..nx],
+        &mut y[..ny],
+        &mut dp_tau[..nx],
+        &mut dp_sigma[..ny],
+        &mut rx[..nx],
+        &mut tx[..nx],
         work,
-        &mut cone_work[0..needed],
+        &mut cone_work[..needed],
         log,
     )
 }

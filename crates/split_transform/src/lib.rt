@@ -64,10 +64,11 @@ fn split_rows(
         x.now beta y.old }
 {
     let m = rows.0;
+    // (c) chunks_mut tells a proof nothing of what is written through it
     let mut r: usize = 0;
     while r < m {
         if r + 32 <= m {
-            rows_at(
+            rows_at::<32>(
                 rows,
                 cols,
                 first,
@@ -79,11 +80,11 @@ fn split_rows(
                 &mut y[r..r + 32],
                 r,
             );
-            r = r + 32;
+            r += 32;
             continue;
         }
         if r + 8 <= m {
-            rows_at(
+            rows_at::<8>(
                 rows,
                 cols,
                 first,
@@ -95,11 +96,11 @@ fn split_rows(
                 &mut y[r..r + 8],
                 r,
             );
-            r = r + 8;
+            r += 8;
             continue;
         }
         if r + 4 <= m {
-            rows_at(
+            rows_at::<4>(
                 rows,
                 cols,
                 first,
@@ -111,10 +112,10 @@ fn split_rows(
                 &mut y[r..r + 4],
                 r,
             );
-            r = r + 4;
+            r += 4;
             continue;
         }
-        rows_at(
+        rows_at::<1>(
             rows,
             cols,
             first,
@@ -126,12 +127,12 @@ fn split_rows(
             &mut y[r..r + 1],
             r,
         );
-        r = r + 1;
+        r += 1;
     }
 }
 
-// The products of rows r, r + 1 and so on, one for each place of y: their sums run on from the first slice into the second.
-fn rows_at(
+// The products of W rows from r on: their sums run on from the first slice into the second.
+fn rows_at<const W: usize>(
     rows: Rows,
     cols: Cols,
     first: Cols,
@@ -146,7 +147,7 @@ fn rows_at(
     requires split_stored { SplitStored rows.0 cols.0 first.0 factory.now lesson.now }
     requires x_len { length x.now ≡ cols.0 }
     requires y_bound { r + length y.old ≤ rows.0 }
-    requires y_len_bound { length y.old ≤ 32 }
+    requires y_len { length y.old ≡ W }
     ensures { y.new
         ≡ each
         (λ k v.
@@ -155,11 +156,11 @@ fn rows_at(
         y.old }
 {
     let n1 = first.0;
-    let w = y.len();
-    let mut sums = [0.0; 32];
-    rows_on(&mut sums[0..w], rows, factory, &x[0..n1], r);
-    rows_on(&mut sums[0..w], rows, lesson, &x[n1..], r);
-    side_by_side::put_sums(alpha, &sums[0..w], beta, y);
+    let mut array = [0.0; W];
+    let sums = &mut array[..];
+    rows_on(sums, rows, factory, &x[0..n1], r);
+    rows_on(sums, rows, lesson, &x[n1..], r);
+    side_by_side::put_sums(alpha, sums, beta, y);
 }
 
 // Rows r, r + 1 and so on of the columns of one slice times x, each added to its sum so far.
@@ -172,10 +173,10 @@ fn rows_on(sums: &mut [f64], rows: Rows, mat: &[f64], x: &[f64], r: usize)
         ≡ each (λ k so_far. row_on so_far rows.0 mat.now x.now (r + k)) sums.old }
 {
     let m = rows.0;
-    for c in 0..x.len() {
+    for (c, v) in x.iter().enumerate() {
         let start = c * m + r;
-        for k in 0..sums.len() {
-            sums[k] = sums[k] + mat[start + k] * x[c];
+        for (k, sum) in sums.iter_mut().enumerate() {
+            *sum += mat[start + k] * *v;
         }
     }
 }
@@ -215,36 +216,45 @@ fn columns_of(rows: Rows, alpha: f64, mat: &[f64], x: &[f64], beta: f64, y: &mut
         ≡ columns_of alpha rows.0 mat.now x.now beta y.old }
 {
     let n = y.len();
+    // (c) as in split_rows
     let mut c: usize = 0;
     while c < n {
         if c + 8 <= n {
-            columns_at(rows, alpha, mat, x, beta, &mut y[c..c + 8], c);
-            c = c + 8;
+            columns_at::<8>(rows, alpha, mat, x, beta, &mut y[c..c + 8], c);
+            c += 8;
             continue;
         }
         if c + 4 <= n {
-            columns_at(rows, alpha, mat, x, beta, &mut y[c..c + 4], c);
-            c = c + 4;
+            columns_at::<4>(rows, alpha, mat, x, beta, &mut y[c..c + 4], c);
+            c += 4;
             continue;
         }
-        columns_at(rows, alpha, mat, x, beta, &mut y[c..c + 1], c);
-        c = c + 1;
+        columns_at::<1>(rows, alpha, mat, x, beta, &mut y[c..c + 1], c);
+        c += 1;
     }
 }
 
-// The products of columns c, c + 1 and so on of one slice, one for each place of y.
-fn columns_at(rows: Rows, alpha: f64, mat: &[f64], x: &[f64], beta: f64, y: &mut [f64], c: usize)
+// The products of W columns from c on of one slice.
+fn columns_at<const W: usize>(
+    rows: Rows,
+    alpha: f64,
+    mat: &[f64],
+    x: &[f64],
+    beta: f64,
+    y: &mut [f64],
+    c: usize,
+)
     requires rows_in_bounds { (c + length y.old) * rows.0 ≤ length mat.now }
     requires x_len { length x.now ≡ rows.0 }
     requires y_bound { c + length y.old ≤ limit }
-    requires y_len_bound { length y.old ≤ 8 }
+    requires y_len { length y.old ≡ W }
     ensures { y.new
         ≡ each (λ k v. alpha *ᶠ column_of rows.0 mat.now x.now (c + k) +ᶠ beta *ᶠ v) y.old }
 {
-    let w = y.len();
-    let mut sums = [0.0; 8];
-    columns_on(&mut sums[0..w], rows, mat, x, c);
-    side_by_side::put_sums(alpha, &sums[0..w], beta, y);
+    let mut array = [0.0; W];
+    let sums = &mut array[..];
+    columns_on(sums, rows, mat, x, c);
+    side_by_side::put_sums(alpha, sums, beta, y);
 }
 
 // Columns c, c + 1 and so on of one slice times x, each added to its sum so far.
@@ -256,9 +266,9 @@ fn columns_on(sums: &mut [f64], rows: Rows, mat: &[f64], x: &[f64], c: usize)
         ≡ each (λ k so_far. column_on so_far rows.0 mat.now x.now (c + k)) sums.old }
 {
     let m = rows.0;
-    for r in 0..x.len() {
-        for k in 0..sums.len() {
-            sums[k] = sums[k] + mat[(c + k) * m + r] * x[r];
+    for (r, v) in x.iter().enumerate() {
+        for (k, sum) in sums.iter_mut().enumerate() {
+            *sum += mat[(c + k) * m + r] * *v;
         }
     }
 }

@@ -13,16 +13,17 @@ pub(crate) fn lengths(
     log: usize,
 ) -> RunRecord {
     let old = r.lengths;
-    let lengths = RunLengths {
-        cols: std::num::wrapping_add_usize(old.cols, cols),
-        rows: std::num::wrapping_add_usize(old.rows, rows),
-        words: std::num::wrapping_add_usize(old.words, words),
-        work: std::num::wrapping_add_usize(old.work, work),
-        cone_work: std::num::wrapping_add_usize(old.cone_work, cone_work),
-        log: std::num::wrapping_add_usize(old.log, log),
-    };
-    let par = r.par;
-    made(r, lengths, par, r.ended)
+    RunRecord {
+        lengths: RunLengths {
+            cols: old.cols.wrapping_add(cols),
+            rows: old.rows.wrapping_add(rows),
+            words: old.words.wrapping_add(words),
+            work: old.work.wrapping_add(work),
+            cone_work: old.cone_work.wrapping_add(cone_work),
+            log: old.log.wrapping_add(log),
+        },
+        ..r
+    }
 }
 
 // Its parameters that are whole numbers.
@@ -41,47 +42,23 @@ pub(crate) fn whole_numbers(
         old.eps_zero,
         sweep_limit,
     );
-    let logged = SolverParam::with_log_period(par, log_period);
-    let lengths = r.lengths;
-    made(
-        r,
-        lengths,
-        SolverParam::with_edition(logged, edition),
-        r.ended,
-    )
+    RunRecord {
+        par: par.with_log_period(log_period).with_edition(edition),
+        ..r
+    }
 }
 
 pub(crate) fn tolerances(r: RunRecord, acc: f64, inf: f64, zero: f64) -> RunRecord {
     let old = r.par;
     let par = SolverParam::of(old.max_iter, acc, inf, zero, old.sweep_limit);
-    let lengths = r.lengths;
-    made(
-        r,
-        lengths,
-        SolverParam::with_log_period(par, old.log_period),
-        r.ended,
-    )
+    RunRecord {
+        par: par.with_log_period(old.log_period),
+        ..r
+    }
 }
 
 pub(crate) fn ended(r: RunRecord) -> RunRecord {
-    let lengths = r.lengths;
-    let par = r.par;
-    made(r, lengths, par, true)
-}
-
-fn made(r: RunRecord, lengths: RunLengths, par: SolverParam, ended: bool) -> RunRecord {
-    let norms = r.norms;
-    RunRecord {
-        lengths,
-        par,
-        norms,
-        tau: r.tau,
-        steps: r.steps,
-        rotations: r.rotations,
-        written: r.written,
-        dropped: r.dropped,
-        ended,
-    }
+    RunRecord { ended: true, ..r }
 }
 
 pub(crate) fn counts(
@@ -91,36 +68,20 @@ pub(crate) fn counts(
     written: u64,
     dropped: u64,
 ) -> RunRecord {
-    let lengths = r.lengths;
-    let par = r.par;
-    let norms = r.norms;
     RunRecord {
-        lengths,
-        par,
-        norms,
-        tau: r.tau,
         steps,
         rotations,
         written,
         dropped,
-        ended: r.ended,
+        ..r
     }
 }
 
 // Its tau and norms.
 pub(crate) fn state(r: RunRecord, tau: f64, b: f64, c: f64) -> RunRecord {
-    let lengths = r.lengths;
-    let par = r.par;
-    let norms = Norms { b, c };
     RunRecord {
-        lengths,
-        par,
-        norms,
+        norms: Norms { b, c },
         tau,
-        steps: r.steps,
-        rotations: r.rotations,
-        written: r.written,
-        dropped: r.dropped,
-        ended: r.ended,
+        ..r
     }
 }

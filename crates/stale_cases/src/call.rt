@@ -1,6 +1,6 @@
 // The problem, its first piece of 3 steps, and a later piece of it: one column, three rows that are a semidefinite block of order 2, and a tolerance of 0, so
 // that it takes all of its 7 steps.
-use patterns::pattern_of;
+use patterns::{pattern_of, same_bits};
 use piece_rules::{PieceAnswer, RunLengths, RunRecord};
 use rules::{Cols, Norms, Rows, SolverParam, Storage};
 
@@ -21,69 +21,30 @@ const NOT_KEPT: u64 = 9;
 // What may be altered in a call: a tolerance, the columns, whether c is too long, the cone word, a number of b, and whether work is too short.
 #[derive(Clone, Copy)]
 pub(crate) struct Call {
-    eps_acc: f64,
-    eps_zero: f64,
-    columns: usize,
-    long_c: bool,
-    word: u16,
-    b: f64,
-    short_work: bool,
+    pub(crate) eps_acc: f64,
+    pub(crate) eps_zero: f64,
+    pub(crate) columns: usize,
+    pub(crate) long_c: bool,
+    pub(crate) word: u16,
+    pub(crate) b: f64,
+    pub(crate) short_work: bool,
 }
 
-fn made(
-    eps_acc: f64,
-    eps_zero: f64,
-    columns: usize,
-    long_c: bool,
-    word: u16,
-    b: f64,
-    short_work: bool,
-) -> Call {
-    Call {
-        eps_acc,
-        eps_zero,
-        columns,
-        long_c,
-        word,
-        b,
-        short_work,
-    }
-}
-
-pub(crate) fn as_begun() -> Call {
-    made(0.0, 0.0, 1, false, WORD, 2.0, false)
-}
-
-pub(crate) fn with_eps_acc(eps: f64) -> Call {
-    made(eps, 0.0, 1, false, WORD, 2.0, false)
-}
-
-pub(crate) fn with_eps_zero(eps: f64) -> Call {
-    made(0.0, eps, 1, false, WORD, 2.0, false)
-}
-
-pub(crate) fn with_columns(n: usize) -> Call {
-    made(0.0, 0.0, n, false, WORD, 2.0, false)
-}
-
-pub(crate) fn with_long_c() -> Call {
-    made(0.0, 0.0, 1, true, WORD, 2.0, false)
-}
-
-pub(crate) fn with_word(word: u16) -> Call {
-    made(0.0, 0.0, 1, false, word, 2.0, false)
-}
-
-pub(crate) fn with_b(b: f64) -> Call {
-    made(0.0, 0.0, 1, false, WORD, b, false)
-}
-
-pub(crate) fn with_short_work() -> Call {
-    made(0.0, 0.0, 1, false, WORD, 2.0, true)
+impl Call {
+    // That of the first piece.
+    pub(crate) const AS_BEGUN: Call = Call {
+        eps_acc: 0.0,
+        eps_zero: 0.0,
+        columns: 1,
+        long_c: false,
+        word: WORD,
+        b: 2.0,
+        short_work: false,
+    };
 }
 
 fn parameters(eps_acc: f64, eps_zero: f64) -> SolverParam {
-    SolverParam::with_log_period(SolverParam::of(STEPS, eps_acc, 0.0, eps_zero, 64), 1)
+    SolverParam::of(STEPS, eps_acc, 0.0, eps_zero, 64).with_log_period(1)
 }
 
 // The first piece, in buffers that hold something else.
@@ -137,9 +98,7 @@ pub(crate) fn begun() -> RunRecord {
     let mut log = [7.0; LOG];
     match begin(&mut work, &mut cone_work, &mut log) {
         PieceAnswer::Halted(record) => record,
-        PieceAnswer::Refused(_) => none(),
-        PieceAnswer::StaleRun => none(),
-        PieceAnswer::Ended(_, _) => none(),
+        _ => none(),
     }
 }
 
@@ -164,35 +123,6 @@ fn none() -> RunRecord {
     }
 }
 
-// Whether two buffers hold the same bits.
-fn same(one: &[f64], other: &[f64]) -> bool {
-    one.len() == other.len() && differences(one, other) == 0
-}
-
-// At how many places of the one the other holds other bits.
-fn differences(one: &[f64], other: &[f64]) -> u64 {
-    let mut count: u64 = 0;
-    for k in 0..one.len() {
-        count = std::num::wrapping_add_u64(count, differs_at(one, other, k));
-    }
-    count
-}
-
-fn differs_at(one: &[f64], other: &[f64], k: usize) -> u64 {
-    if pattern_at(one, k) == pattern_at(other, k) {
-        0
-    } else {
-        1
-    }
-}
-
-fn pattern_at(buffer: &[f64], k: usize) -> u64 {
-    if k < buffer.len() {
-        return pattern_of(buffer[k]);
-    }
-    0
-}
-
 fn all_same(
     work: &[f64],
     cone_work: &[f64],
@@ -201,24 +131,16 @@ fn all_same(
     kept_cone: &[f64],
     kept_log: &[f64],
 ) -> bool {
-    same(work, kept) && same(cone_work, kept_cone) && same(log, kept_log)
+    same_bits(work, kept) && same_bits(cone_work, kept_cone) && same_bits(log, kept_log)
 }
 
 // Whether an answered record says the same as the one that was lent.
 fn same_record(one: RunRecord, other: RunRecord) -> bool {
-    if pattern_of(one.tau) != pattern_of(other.tau) {
-        return false;
-    }
-    if one.steps != other.steps {
-        return false;
-    }
-    if one.rotations != other.rotations {
-        return false;
-    }
-    if one.written != other.written {
-        return false;
-    }
-    one.dropped == other.dropped
+    pattern_of(one.tau) == pattern_of(other.tau)
+        && one.steps == other.steps
+        && one.rotations == other.rotations
+        && one.written == other.written
+        && one.dropped == other.dropped
 }
 
 // The number of an answer, where a run that was turned away or stood still has kept all.
@@ -226,12 +148,8 @@ fn number(answer: PieceAnswer, record: RunRecord, given: u32, kept: bool) -> u64
     match answer {
         PieceAnswer::Refused(e) => if_kept(kept, replay_answers::number_of(e)),
         PieceAnswer::StaleRun => if_kept(kept, 7),
-        PieceAnswer::Halted(r) => {
-            if given == 0 {
-                return if_kept(kept && same_record(r, record), 0);
-            }
-            0
-        }
+        PieceAnswer::Halted(r) if given == 0 => if_kept(kept && same_record(r, record), 0),
+        PieceAnswer::Halted(_) => 0,
         PieceAnswer::Ended(_, left) => if_kept(left.steps <= STEPS && left.ended, 8),
     }
 }
@@ -311,10 +229,18 @@ pub(crate) fn after_call(record: RunRecord, call: Call, given: u32) -> u64 {
 
 // Whether all steps from these buffers end, by step 7.
 fn ends_in(record: RunRecord, work: &mut [f64], cone_work: &mut [f64], log: &mut [f64]) -> bool {
-    let answer = later(record, as_begun(), &[1.0], 4294967295, work, cone_work, log);
+    let answer = later(
+        record,
+        Call::AS_BEGUN,
+        &[1.0],
+        4294967295,
+        work,
+        cone_work,
+        log,
+    );
     if let PieceAnswer::Ended(told, left) = answer {
-        let of_run = told.answer;
-        return of_run.steps <= STEPS && left.steps == of_run.steps && left.ended;
+        let steps = told.answer.steps;
+        return steps <= STEPS && left.steps == steps && left.ended;
     }
     false
 }
@@ -348,7 +274,7 @@ pub(crate) fn stands_still(record: RunRecord, number: f64) -> bool {
     let kept_log = [number; LOG];
     let answer = told(
         record,
-        as_begun(),
+        Call::AS_BEGUN,
         &[1.0],
         0,
         &mut work,

@@ -1,28 +1,27 @@
 -- What a step asks by test it asks part by part, and the other way; its outcome.
 use Prim.Native.Nat.{ℕ}
 use mathlib.Core.Path.{◌≡◌, sym, ◌∙◌}
-use mathlib.Core.Bool.{Bool, true, false, not, ◌&&◌}
+use mathlib.Core.Bool.{Bool, true, ◌&&◌}
 use mathlib.Core.List.{List}
-use borrow.Author.Tests.{not-true, not-false}
 use lib.Ieee.{Float}
+use Rattle.std.specs.Prelude.{Option}
 use lib.ListN.{length}
 use Rattle.rules.specs.declared.Product.{Product}
-use Rattle.rules.specs.declared.Product.TheVariants.{No}
 use Rattle.rules.specs.declared.Shape.{Shape}
 use Rattle.rules.specs.declared.SolverParam.{SolverParam}
 use Rattle.rules.specs.Product.{lengths_fit}
-use Rattle.rules.specs.Problem.{Slices, Problem, problem_in}
+use Rattle.rules.specs.Problem.{Slices, Problem}
 use Rattle.rules.specs.Step.{State}
 use Rattle.rules.proofs.Matrices.{both_true}
-use Rattle.shape.specs.Fitting.{operators_fit, fits_x, fits_y, Fits, LikeX, LikeY}
+use Rattle.shape.specs.Fitting.{operators_fit, fits_x, fits_y}
 use Rattle.shape.proofs.Fitting.{sizes_within, operators_fit_lem, fits_of, x_fits, y_fits, like_x, like_y}
 use Rattle.step.specs.Update.{vectors_fit, step_fits, StepReady, StepOutcome}
 use Rattle.project.proofs.Ready.{cones_fit, cones_ready}
 
 -- ---- all of it
 
-step-ready : (par : SolverParam) (shape : Shape) (c : List Float) (a : Slices) (b : List Float) (words : List ℕ) (s : State) → vectors_fit shape s.x s.y s.dp_tau s.dp_sigma s.rx s.tx ≡ true → operators_fit shape c a b ≡ true → lengths_fit par words shape.rows.0 (length s.cone) ≡ true → StepReady par shape c a b words s
-step-ready par shape c a b words s h o l =
+pub step_ready : (par : SolverParam) (shape : Shape) (c : List Float) (a : Slices) (b : List Float) (words : List ℕ) (s : State) → vectors_fit shape s.x s.y s.dp_tau s.dp_sigma s.rx s.tx ≡ true → operators_fit shape c a b ≡ true → lengths_fit par words shape.rows.0 (length s.cone) ≡ true → StepReady par shape c a b words s
+step_ready par shape c a b words s h o l =
     let tx = both_true (fits_x shape s.x && fits_y shape s.y && fits_x shape s.dp_tau && fits_y shape s.dp_sigma && fits_x shape s.rx) (fits_x shape s.tx) h in
     let rx = both_true (fits_x shape s.x && fits_y shape s.y && fits_x shape s.dp_tau && fits_y shape s.dp_sigma) (fits_x shape s.rx) tx.0 in
     let sigma = both_true (fits_x shape s.x && fits_y shape s.y && fits_x shape s.dp_tau) (fits_y shape s.dp_sigma) rx.0 in
@@ -44,7 +43,7 @@ pub fits_ready : (par : SolverParam) (shape : Shape) (c : List Float) (a : Slice
 fits_ready par shape c a b words s h =
     let p = both_true (vectors_fit shape s.x s.y s.dp_tau s.dp_sigma s.rx s.tx && operators_fit shape c a b) (lengths_fit par words shape.rows.0 (length s.cone)) h in
     let q = both_true (vectors_fit shape s.x s.y s.dp_tau s.dp_sigma s.rx s.tx) (operators_fit shape c a b) p.0 in
-    step-ready par shape c a b words s q.0 q.1 p.1
+    step_ready par shape c a b words s q.0 q.1 p.1
 
 pub step_fits_lem : {par : SolverParam} {shape : Shape} {c : List Float} {a : Slices} {b : List Float} {words : List ℕ} {s : State} → StepReady par shape c a b words s → step_fits par shape c a b words s ≡ true
 step_fits_lem r =
@@ -54,37 +53,9 @@ step_fits_lem r =
 -- ---- the outcome
 
 module _ {fits : Bool} {p : Problem} {s : State} where
-  step-refused : fits ≡ false → StepOutcome fits p s No s
-  step-refused e = record { answered = rw e; left = rw e }
-
-  step-taken : {answer : Product} {s' : State} → fits ≡ true → StepOutcome true p s answer s' → StepOutcome fits p s answer s'
-  step-taken e o = record { answered = rw e o.answered; left = rw e o.left }
-
   -- for a caller whose sizes fit
-  pub step_true : {answer : Product} {s' : State} → StepOutcome fits p s answer s' → fits ≡ true → StepOutcome true p s answer s'
+  pub step_true : {answer : Option Product} {s' : State} → StepOutcome fits p s answer s' → fits ≡ true → StepOutcome true p s answer s'
   step_true o e = record { answered = rw e at o.answered; left = rw e at o.left }
 
-  pub step_outcomes_coincide : {a b : Product} {s' t : State} → StepOutcome fits p s a s' → StepOutcome fits p s b t → (a ≡ b) × (s' ≡ t)
+  pub step_outcomes_coincide : {a b : Option Product} {s' t : State} → StepOutcome fits p s a s' → StepOutcome fits p s b t → (a ≡ b) × (s' ≡ t)
   step_outcomes_coincide o q = (o.answered ∙ sym q.answered, o.left ∙ sym q.left)
-
--- ---- the outcome by the three tests, asked in turn: v of the vectors, o of the operators, l of the cone list and its work
-
-module _ (par : SolverParam) (shape : Shape) (c : List Float) (a : Slices) (b : List Float) (words : List ℕ) (s : State) {v : Bool} (v_is : v ≡ vectors_fit shape s.x s.y s.dp_tau s.dp_sigma s.rx s.tx) where
-  -- the first that fails refuses the step
-  pub vectors_refused : not v ≡ true → StepOutcome (step_fits par shape c a b words s) (problem_in shape c a b words par) s No s
-  vectors_refused h = step-refused (rw (sym v_is ∙ not-true v h))
-
-  module _ {o : Bool} (v_holds : not v ≡ false) (o_is : o ≡ operators_fit shape c a b) where
-    pub operators_refused : not o ≡ true → StepOutcome (step_fits par shape c a b words s) (problem_in shape c a b words par) s No s
-    operators_refused h = step-refused (rw (sym v_is ∙ not-false v v_holds, sym o_is ∙ not-true o h))
-
-    module _ {l : Bool} (o_holds : not o ≡ false) (l_is : l ≡ lengths_fit par words shape.rows.0 (length s.cone)) where
-      pub cones_refused : not l ≡ true → StepOutcome (step_fits par shape c a b words s) (problem_in shape c a b words par) s No s
-      cones_refused h = step-refused (rw (sym v_is ∙ not-false v v_holds, sym o_is ∙ not-false o o_holds) (sym l_is ∙ not-true l h))
-
-      -- where none fails, the step has what it asks, and is taken
-      pub ready-by_tests : not l ≡ false → StepReady par shape c a b words s
-      ready-by_tests h = step-ready par shape c a b words s (sym v_is ∙ not-false v v_holds) (sym o_is ∙ not-false o o_holds) (sym l_is ∙ not-false l h)
-
-      pub taken-by_tests : {answer : Product} {s' : State} → not l ≡ false → StepOutcome true (problem_in shape c a b words par) s answer s' → StepOutcome (step_fits par shape c a b words s) (problem_in shape c a b words par) s answer s'
-      taken-by_tests h t = step-taken (step_fits_lem (ready-by_tests h)) t

@@ -4,11 +4,12 @@ use mathlib.Core.Path.{◌≡◌, refl, sym, ◌∙◌}
 use mathlib.Core.Bool.{true}
 use mathlib.Core.List.{List, ◌++◌}
 use lib.Ieee.{Float, neg}
+use Rattle.std.specs.Prelude.{Option, Some, None}
 use lib.ListN.{length, drop, set}
 use Rattle.rules.specs.declared.Shape.{Shape}
 use Rattle.rules.specs.declared.SolverParam.{SolverParam}
 use Rattle.rules.specs.declared.Product.{Product}
-use Rattle.rules.specs.declared.Product.TheVariants.{Done, Failed, No}
+use Rattle.rules.specs.declared.Product.TheVariants.{Done, Failed}
 use Rattle.rules.specs.Helpers.{one, smaller}
 use Rattle.rules.specs.Arithmetic.{+0, at}
 use Rattle.rules.specs.Vectors.{transformed_di}
@@ -68,7 +69,7 @@ stopped_left p s b e = rw e
 
 -- ---- all of it, for a caller that has what a step asks: what each answer of the projection makes of the step
 
-module _ {par : SolverParam} {shape : Shape} {c : List Float} {a : Slices} {b : List Float} {words : List ℕ} {x y dp_tau dp_sigma rx tx cone x₁ rx₁ tx₁ : List Float} {answer : Product} {x₂ cone₂ : List Float} (r : StepReady par shape c a b words (state_of x y dp_tau dp_sigma rx tx cone)) (f : XMoved (embed_in par.«edition» shape c a b) x y dp_tau tx x₁ rx₁ tx₁) (as_long : length x₁ ≡ length x) (projects : ProductOutcome (project_fits par shape words x₁ cone) (projected_in par shape words x₁ cone) x₁ cone answer x₂ cone₂) where
+module _ {par : SolverParam} {shape : Shape} {c : List Float} {a : Slices} {b : List Float} {words : List ℕ} {x y dp_tau dp_sigma rx tx cone x₁ rx₁ tx₁ : List Float} {answer : Option Product} {x₂ cone₂ : List Float} (r : StepReady par shape c a b words (state_of x y dp_tau dp_sigma rx tx cone)) (f : XMoved (embed_in par.«edition» shape c a b) x y dp_tau tx x₁ rx₁ tx₁) (as_long : length x₁ ≡ length x) (projects : ProductOutcome (project_fits par shape words x₁ cone) (projected_in par shape words x₁ cone) x₁ cone answer x₂ cone₂) where
   abbrev p : Problem
   p = problem_in shape c a b words par
 
@@ -87,19 +88,19 @@ module _ {par : SolverParam} {shape : Shape} {c : List Float} {a : Slices} {b : 
   step_rule : updated p from ≡ record { state = moved_y p taken; rotations = (projected_in par shape words x₁ cone).rotations; failure = (projected_in par shape words x₁ cone).failure }
   step_rule = updated_rule p from ∙ rw (moved, projected_rule shape c a b words par x₁ cone, tau_rule shape c a b words par, outcome.cone_left, outcome.work_left)
 
-  said : answer ≡ product_answer (updated p from).rotations (updated p from).failure
+  said : answer ≡ Some (product_answer (updated p from).rotations (updated p from).failure)
   said = rw step_rule outcome.answered
 
-  pub step_some : answer ≡ No → ⊥
+  pub step_some : answer ≡ None → ⊥
   step_some is = answer_some (updated p from).rotations (updated p from).failure (sym is ∙ said)
 
-  pub step_failed : {number q : ℕ} → answer ≡ Failed number q → StepOutcome true p from (Failed number q) (state_of x₂ y dp_tau dp_sigma rx₁ tx₁ cone₂)
+  pub step_failed : {number q : ℕ} → answer ≡ Some (Failed number q) → StepOutcome true p from (Some (Failed number q)) (state_of x₂ y dp_tau dp_sigma rx₁ tx₁ cone₂)
   step_failed {number} {q} is =
       let s = (answer_failed (updated p from).rotations (updated p from).failure number q (sym is ∙ said)).0 in
       let stops : stopped p from ≡ state_of x₂ y dp_tau dp_sigma rx₁ tx₁ cone₂ = stopped_rule p from ∙ rw (moved, projected_rule shape c a b words par x₁ cone, outcome.cone_left, outcome.work_left) in
       record { answered = sym is ∙ said; left = sym (stopped_left p from number s ∙ stops) }
 
-  pub step_done : {q : ℕ} {x₃ y₄ rx₄ tx₄ : List Float} → answer ≡ Done q → x₃ ≡ taken_in shape x₂ → YMoved (embed_in par.«edition» shape c a b) x₃ y dp_sigma rx₁ tx₁ y₄ rx₄ tx₄ → StepOutcome true p from (Done q) (state_of x₃ y₄ dp_tau dp_sigma rx₄ tx₄ cone₂)
+  pub step_done : {q : ℕ} {x₃ y₄ rx₄ tx₄ : List Float} → answer ≡ Some (Done q) → x₃ ≡ taken_in shape x₂ → YMoved (embed_in par.«edition» shape c a b) x₃ y dp_sigma rx₁ tx₁ y₄ rx₄ tx₄ → StepOutcome true p from (Some (Done q)) (state_of x₃ y₄ dp_tau dp_sigma rx₄ tx₄ cone₂)
   step_done {q} {x₃} is t g =
       let s = (answer_done (updated p from).rotations (updated p from).failure q (sym is ∙ said)).0 in
       record { answered = sym is ∙ said; left = sym (none_left p from s ∙ rw (step_rule, ← t, y_rule p x₃ y dp_tau dp_sigma rx₁ tx₁ cone₂, g.y_is, g.rx_is, g.tx_is)) }

@@ -1,7 +1,6 @@
 -- The complete outcome of one step.
-use Rattle.std.specs.Prelude.{ℕ, ◌≡◌, Bool, cond, ◌&&◌, List, Float, length}
+use Rattle.std.specs.Prelude.{ℕ, ◌≡◌, Bool, cond, ◌&&◌, List, Float, length, Option, Some, None}
 use Rattle.rules.specs.declared.Product.{Product}
-use Rattle.rules.specs.declared.Product.TheVariants.{No}
 use Rattle.rules.specs.declared.Shape.{Shape}
 use Rattle.rules.specs.declared.SolverParam.{SolverParam}
 use Rattle.rules.specs.Product.{is_none, product_answer, lengths_fit}
@@ -51,6 +50,6 @@ pub record StepReady (par : SolverParam) (shape : Shape) (c : List Float) (a : S
 
 -- It answers the step's rotations, or the block that failed with the rotations up to there, where all fits, and no where it doesn't. The vectors and cone
 -- work hold what the rule says, place by place, or what they held before.
-pub record StepOutcome (fits : Bool) (p : Problem) (s : State) (answer : Product) (s' : State) : Type 0 where
-  pub answered : answer ≡ cond fits (product_answer (updated p s).rotations (updated p s).failure) No
+pub record StepOutcome (fits : Bool) (p : Problem) (s : State) (answer : Option Product) (s' : State) : Type 0 where
+  pub answered : answer ≡ cond fits (Some (product_answer (updated p s).rotations (updated p s).failure)) None
   pub left : s' ≡ cond fits (stepped p s) s

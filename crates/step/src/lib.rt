@@ -9,7 +9,7 @@ ghost use Rattle.step.specs.Moves.{CanMoveX, XMoved, taken_in, CanMoveY, YMoved}
 ghost use Rattle.step.specs.Update.{state_of, vectors_fit, step_fits, StepReady, StepOutcome};
 
 use rules::{Product, Shape, SolverParam};
-use shape::{fits_x, fits_y, operators_fit};
+use shape::{Operators, fits_x, fits_y, operators_fit};
 use words::product_fits;
 
 // What the cone makes of a step: the rotations, or the block that failed with the rotations up to there. Where a
@@ -29,7 +29,7 @@ pub fn update_vecs(
     rx: &mut [f64],
     tx: &mut [f64],
     cone_work: &mut [f64],
-) -> Product
+) -> Option<Product>
     ensures { let s = state_of x.old y.old dp_tau.now dp_sigma.now
         rx.old tx.old cone_work.old in
         StepOutcome
@@ -40,18 +40,22 @@ pub fn update_vecs(
         (state_of x.new y.new dp_tau.now dp_sigma.now
         rx.new tx.new cone_work.new) }
 {
-    if !vectors_fit(shape, x, y, dp_tau, dp_sigma, rx, tx) {
-        return Product::No;
+    if vectors_fit(shape, x, y, dp_tau, dp_sigma, rx, tx)
+        && operators_fit(&Operators {
+            shape,
+            c,
+            a1,
+            a2,
+            b,
+        })
+        && product_fits(par, words, shape.rows.0, cone_work.len())
+    {
+        update_fitting(
+            par, shape, c, a1, a2, b, words, x, y, dp_tau, dp_sigma, rx, tx, cone_work,
+        )
+    } else {
+        None
     }
-    if !operators_fit(shape, c, a1, a2, b) {
-        return Product::No;
-    }
-    if !product_fits(par, words, shape.rows.0, cone_work.len()) {
-        return Product::No;
-    }
-    update_fitting(
-        par, shape, c, a1, a2, b, words, x, y, dp_tau, dp_sigma, rx, tx, cone_work,
-    )
 }
 
 // Whether the six vectors have the lengths that the shape says.
@@ -68,22 +72,12 @@ fn vectors_fit(
         ≡ vectors_fit shape x.now y.now dp_tau.now dp_sigma.now
         rx.now tx.now }
 {
-    if !fits_x(shape, x) {
-        return false;
-    }
-    if !fits_y(shape, y) {
-        return false;
-    }
-    if !fits_x(shape, dp_tau) {
-        return false;
-    }
-    if !fits_y(shape, dp_sigma) {
-        return false;
-    }
-    if !fits_x(shape, rx) {
-        return false;
-    }
-    fits_x(shape, tx)
+    fits_x(shape, x)
+        && fits_y(shape, y)
+        && fits_x(shape, dp_tau)
+        && fits_y(shape, dp_sigma)
+        && fits_x(shape, rx)
+        && fits_x(shape, tx)
 }
 
 // A step whose sizes fit.
@@ -102,7 +96,7 @@ fn update_fitting(
     rx: &mut [f64],
     tx: &mut [f64],
     cone_work: &mut [f64],
-) -> Product
+) -> Option<Product>
     requires { StepReady par shape c.now (slices a1.now a2.now) b.now words.now
         (state_of x.old y.old dp_tau.now dp_sigma.now rx.old tx.old cone_work.old) }
     ensures { StepOutcome true
@@ -115,19 +109,17 @@ fn update_fitting(
         rx.new tx.new cone_work.new) }
 {
     move_x(par.edition, shape, c, a1, a2, b, x, y, dp_tau, rx, tx);
-    let p = project::project(par, shape, words, x, cone_work);
-    match p {
-        Product::Done(q) => {
-            take_tau(shape, x);
-            move_y(par.edition, shape, c, a1, a2, b, x, y, dp_sigma, rx, tx);
-            Product::Done(q)
-        }
-        Product::Failed(block, q) => Product::Failed(block, q),
-        Product::No => Product::No,
-    }
+    let made = project::project(par, shape, words, x, cone_work)?;
+    let Product::Done(_) = made else {
+        return Some(made);
+    };
+    take_tau(shape, x);
+    move_y(par.edition, shape, c, a1, a2, b, x, y, dp_sigma, rx, tx);
+    Some(made)
 }
 
 // Copies x aside, and moves x by the transposed operator on y.
+#[tactic(auto, unfolding(rules::specs::Helpers::one))]
 fn move_x(
     edition: u32,
     shape: Shape,
@@ -149,7 +141,14 @@ fn move_x(
         tx.new }
 {
     linalg::copy(x, rx);
-    embed_trans::trans_op(edition, shape, c, a1, a2, b, -1.0, y, 0.0, tx);
+    let operators = Operators {
+        shape,
+        c,
+        a1,
+        a2,
+        b,
+    };
+    embed_trans::trans_op(edition, &operators, -1.0, y, 0.0, tx);
     linalg::transform_di(1.0, dp_tau, tx, 1.0, x);
 }
 
@@ -167,6 +166,7 @@ fn take_tau(shape: Shape, x: &mut [f64])
 }
 
 // Forms x_old - 2 * x_new, moves y, and takes the smaller of y's last and 0.
+#[tactic(auto, unfolding(rules::specs::Helpers::one))]
 fn move_y(
     edition: u32,
     shape: Shape,
@@ -192,7 +192,14 @@ fn move_y(
     let nm = n + m;
     let nm1 = nm + 1;
     linalg::add(-1.0 - 1.0, x, rx);
-    embed::op(edition, shape, c, a1, a2, b, -1.0, rx, 0.0, &mut tx[0..nm1]);
-    linalg::transform_di(1.0, dp_sigma, &tx[0..nm1], 1.0, y);
+    let operators = Operators {
+        shape,
+        c,
+        a1,
+        a2,
+        b,
+    };
+    embed::op(edition, &operators, -1.0, rx, 0.0, &mut tx[..nm1]);
+    linalg::transform_di(1.0, dp_sigma, &tx[..nm1], 1.0, y);
     y[nm] = float::smaller(y[nm], 0.0);
 }

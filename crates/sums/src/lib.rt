@@ -9,14 +9,11 @@ pub fn norm(x: &[f64]) -> f64
     ensures { result ≡ rules.norm x.now }
 {
     let mut sum = 0.0;
-    for i in 0..x.len() {
-        sum = sum + x[i] * x[i];
+    for &v in x {
+        sum += v * v;
     }
-    if sum == 1.0 / 0.0 {
-        let all_are = finite::all_finite(x);
-        if all_are {
-            return scaled_norm(x);
-        }
+    if sum == f64::INFINITY && finite::all_finite(x) {
+        return scaled_norm(x);
     }
     root::root(sum)
 }
@@ -28,9 +25,9 @@ fn scaled_norm(x: &[f64]) -> f64
     let down = f64::from_bits(423 * 4503599627370496);
     let up = f64::from_bits(1623 * 4503599627370496);
     let mut total = 0.0;
-    for i in 0..x.len() {
-        let v = down * x[i];
-        total = total + v * v;
+    for &v in x {
+        let w = down * v;
+        total += w * w;
     }
     root::root(total) * up
 }
@@ -42,13 +39,10 @@ pub fn abssum(x: &[f64], incx: usize) -> f64
     if incx == 0 {
         return 0.0;
     }
-    if x.len() == 0 {
-        return 0.0;
-    }
-    let terms = (x.len() - 1) / incx + 1;
     let mut sum = 0.0;
-    for k in 0..terms {
-        sum = sum + float::magnitude(x[k * incx]);
+    // (d) the k-th term stands at k * incx: an index in any form
+    for k in 0..x.len().div_ceil(incx) {
+        sum += float::magnitude(x[k * incx]);
     }
     sum
 }

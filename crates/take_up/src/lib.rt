@@ -10,6 +10,7 @@ use rules::{Cols, Rows};
 
 // The six vectors of a run become what stands for them at the front of work. Where a length or a size doesn't fit, it answers no and changes
 // nothing.
+#[tactic(auto, unfolding(settle::specs::Settle::settle_fits))]
 pub fn take_up(
     rows: Rows,
     cols: Cols,
@@ -71,10 +72,11 @@ fn take_parts(
 }
 
 // v becomes the part of work that starts there and is as long as v.
+#[tactic(auto, using(rules::proofs::Parts::places))]
 fn copy_from(start: usize, work: &[f64], v: &mut [f64])
     requires { start + length v.old ≤ length work.now }
     ensures { v.new ≡ part start (length v.old) work.now }
 {
     let end = start + v.len();
-    linalg::copy(&work[start..end], v);
+    v.copy_from_slice(&work[start..end]);
 }

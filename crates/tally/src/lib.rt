@@ -2,7 +2,11 @@
 #![tactic(auto)]
 
 ghost use Rattle.std.specs.Prelude.{◌≡◌, length, nat_lt};
-ghost use Rattle.tally.specs.Tallies.{counted, total_to};
+ghost use Rattle.tally.specs.Tallies.{counted, total_of};
+
+mod counts;
+
+pub use counts::{Counts, Tally};
 
 // One more at a place: whether there is one.
 pub fn count(tally: &mut [u64], at: usize) -> bool
@@ -10,18 +14,14 @@ pub fn count(tally: &mut [u64], at: usize) -> bool
     ensures left { tally.new ≡ counted tally.old at }
 {
     if at < tally.len() {
-        tally[at] = std::num::wrapping_add_u64(tally[at], 1);
+        tally[at] = tally[at].wrapping_add(1);
         return true;
     }
     false
 }
 
 pub fn total(tally: &[u64]) -> u64
-    ensures { result ≡ total_to tally.now (length tally.now) }
+    ensures { result ≡ total_of tally.now }
 {
-    let mut sum: u64 = 0;
-    for at in 0..tally.len() {
-        sum = std::num::wrapping_add_u64(sum, tally[at]);
-    }
-    sum
+    tally.iter().fold(0, |sum, &one| sum.wrapping_add(one))
 }

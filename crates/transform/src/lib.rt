@@ -43,8 +43,8 @@ fn row_product(transpose: bool, rows: Rows, cols: Cols, mat: &[f64], x: &[f64], 
     ensures { result ≡ product (entries transpose (General rows cols) mat.now) x.now r }
 {
     let mut mat_x = 0.0;
-    for c in 0..x.len() {
-        mat_x = mat_x + entry_at(transpose, rows, cols, mat, r, c) * x[c];
+    for (c, v) in x.iter().enumerate() {
+        mat_x += entry_at(transpose, rows, cols, mat, r, c) * *v;
     }
     mat_x
 }
@@ -69,8 +69,8 @@ pub fn transform_ge(
     if !matrix::transform_fits(transpose, MatType::General(rows, cols), mat, x, y) {
         return false;
     }
-    for r in 0..y.len() {
-        y[r] = alpha * row_product(transpose, rows, cols, mat, x, r) + beta * y[r];
+    for (r, v) in y.iter_mut().enumerate() {
+        *v = alpha * row_product(transpose, rows, cols, mat, x, r) + beta * *v;
     }
     true
 }

@@ -6,9 +6,8 @@ use lib.Ieee.{Float}
 use Rattle.rules.specs.declared.Criteria.TheVariants.{Conv, Inf}
 use Rattle.rules.specs.declared.Ending.{Ending}
 use Rattle.rules.specs.declared.SolverParam.{SolverParam}
-use Rattle.rules.specs.declared.Verdict.{Verdict}
 use Rattle.rules.specs.Product.{none}
-use Rattle.rules.specs.Run.{verdict, is_scaled, is_cone_failure}
+use Rattle.rules.specs.Run.{Verdict, verdict, is_scaled, is_cone_failure}
 use Rattle.rules.proofs.Outcome.{results_coincide}
 
 pub any_two_of_conv_coincide : (par : SolverParam) (k : ℕ) (pri dual gap : Float) (r r' : Verdict)

@@ -20,13 +20,13 @@ pub returns-then-y-width : goal.returns-then-y-width
 returns-then-y-width c = refused (rw (sym c.stored_fits.ensures ∙ not-false _ c.if-not-stored_fits.false-raw) (ne_eqb _ _ (rw c.width.ensures at c.if-y-width.true)))
 
 pub loop-k-init : goal.loop-k-init
-loop-k-init c = (reached_none _ _, stored_if_fits (sym c.stored_fits.ensures ∙ not-false _ c.if-not-stored_fits.false-raw), rw c.width.ensures at c.if-y-width.false, refl)
+loop-k-init c = (reached_none _ _, stored_if_fits (sym c.stored_fits.ensures ∙ not-false _ c.if-not-stored_fits.false-raw), rw c.width.ensures at c.if-y-width.false)
 
 pub line_sum-requires : goal.line_sum-requires
 line_sum-requires c = record { stored = c.loop-k.invariant.1; k_bound = search rules }
 
 pub loop-k-preserved : goal.loop-k-preserved
-loop-k-preserved c = (rw c.line_sum.ensures (reached_more c.loop-k.invariant.0 (search rules)), search rules, search rules, search rules)
+loop-k-preserved c = (rw c.line_sum.ensures (reached_more c.loop-k.invariant.0 (search rules)), search rules, search rules)
 
 pub returns : goal.returns
 unfolding absadded

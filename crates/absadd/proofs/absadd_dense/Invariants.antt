@@ -14,4 +14,4 @@ use Rattle.absadd.specs.Columns.{absadded}
 use Rattle.absadd.proofs.absadd_dense.Given as goal
 
 abbrev pub invariant-loop-k : goal.invariant-loop-k
-invariant-loop-k l = Reached (λ i v. col_sum (entries l.transpose (General l.rows l.cols) l.mat) (height l.transpose (General l.rows l.cols)) i +ᶠ v) l.k l.initial.y l.y × Stored (General l.rows l.cols) l.mat × (length l.initial.y ≡ width l.transpose (General l.rows l.cols)) × (l.k-end ≡ length l.initial.y)
+invariant-loop-k l = Reached (λ i v. col_sum (entries l.transpose (General l.rows l.cols) l.mat) (height l.transpose (General l.rows l.cols)) i +ᶠ v) l.k l.initial.y l.y × Stored (General l.rows l.cols) l.mat × (length l.initial.y ≡ width l.transpose (General l.rows l.cols))

@@ -1,6 +1,5 @@
 -- `angle::cosine` meets its contract.
 use mathlib.Core.Path.{ap, ◌∙◌}
-use borrow.Author.Rules.{rules}
 use Rattle.rules.specs.Helpers.{one, reciprocal}
 use Rattle.rules.specs.Jacobi.{cosine}
 use Rattle.angle.proofs.cosine.Goals as goal

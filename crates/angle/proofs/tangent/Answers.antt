@@ -1,5 +1,4 @@
 -- `angle::tangent` meets its contract.
-use borrow.Author.Rules.{rules}
 use Rattle.rules.specs.Helpers.{one}
 use Rattle.angle.proofs.Zeta.{tangent_above, tangent_else}
 use Rattle.angle.proofs.tangent.Goals as goal

@@ -1,20 +1,19 @@
 -- `card_problem::fill` meets its contract: the front is filled, the rest is as it was.
-use borrow.Author.Rules.{rules}
 use native.Mathlib.Omega.{arith}
-use Prim.Native.Nat.{◌-◌, ◌≤◌}
+use Prim.Native.Nat.{◌+◌}
 use mathlib.Core.Path.{◌≡◌, refl}
-use mathlib.Core.List.{◌++◌}
-use lib.ListN.{length, drop, length-set}
 use Rattle.card_problem.specs.Problem.{numbers_at}
 use Rattle.card_problem.proofs.Numbers.{filled, filled_all}
 use Rattle.card_problem.proofs.fill.Goals as goal
 
-pub loop-i-init : goal.loop-i-init
+pub loop-k-init : goal.loop-k-init
 unfolding numbers_at
-loop-i-init c = (refl, refl, refl, omega arith)
+loop-k-init c = refl
 
-pub loop-i-preserved : goal.loop-i-preserved
-loop-i-preserved c = (filled c.args.numbers.now c.args.at c.loop-i.i c.args.out.now c.loop-i.out c.number_after.result c.loop-i.invariant.0 (omega arith) c.number_after.ensures, rw (length-set) c.loop-i.invariant.1, c.loop-i.invariant.2, omega arith)
+pub loop-k-preserved : goal.loop-k-preserved
+loop-k-preserved c =
+    let here : 0 + c.loop-k.k ≡ c.loop-k.k = omega arith in
+    filled c.args.numbers.now 0 c.loop-k.k c.args.out.now c.loop-k.out c.number_at.result c.loop-k.invariant (omega arith) (rw here c.number_at.ensures)
 
 pub returns : goal.returns
-returns c = filled_all c.args.numbers.now c.args.at c.loop-i.i c.args.out.now c.loop-i.out c.loop-i.invariant.0 (omega arith)
+returns c = filled_all c.args.numbers.now 0 c.loop-k.k c.args.out.now c.loop-k.out c.loop-k.invariant (omega arith)

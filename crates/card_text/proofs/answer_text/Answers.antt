@@ -1,7 +1,5 @@
 -- `card_text::answer_text` meets its contract.
-use borrow.Author.Rules.{rules}
 use native.Mathlib.Omega.{arith}
-use mathlib.Core.Path.{refl}
 use Rattle.card_text.proofs.Whole.{counts, columns_within, rows_within, text_written}
 use Rattle.card_text.proofs.answer_text.Goals as goal
 

@@ -1,5 +1,4 @@
 -- `checks::check` meets its contract: A stands in the first of two slices.
-use borrow.Author.Rules.{rules}
 use mathlib.Core.Path.{◌∙◌}
 use Rattle.checks.proofs.Refused.{parts_of_whole}
 use Rattle.checks.proofs.check.Goals as goal

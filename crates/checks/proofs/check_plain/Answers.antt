@@ -1,5 +1,4 @@
 -- `checks::check_plain` meets its contract: the last three tests in order, each with the noes before it.
-use borrow.Author.Rules.{rules}
 use mathlib.Core.Path.{sym, ◌∙◌}
 use Rattle.rules.specs.Problem.{slices, joined}
 use Rattle.checks.proofs.Refused.{here, past, none_left, plain_answers}

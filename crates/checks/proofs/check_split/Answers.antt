@@ -1,5 +1,4 @@
 -- `checks::check_split` meets its contract.
-use borrow.Author.Rules.{rules}
 use mathlib.Core.Path.{◌∙◌}
 use Rattle.checks.proofs.Refused.{parts_of_split}
 use Rattle.checks.proofs.check_split.Goals as goal

@@ -1,13 +1,8 @@
 -- `columns::dense_rows` meets its contract.
-use Prim.Native.Nat.{◌-◌}
-use native.Mathlib.Omega.{arith}
-use mathlib.Core.Path.{◌≡◌, refl, ◌∙◌}
-use lib.ListN.{length}
-use borrow.Author.Rules.{rules}
 use Rattle.rules.specs.Arithmetic.{◌+ᶠ◌}
-use Rattle.rules.proofs.Arithmetic.{Reached, reached_none, reached_all}
-use Rattle.columns.proofs.Shown.{abs_row_on, row_reached, rows_added}
+use Rattle.rules.proofs.Arithmetic.{Reached}
+use Rattle.columns.proofs.Shown.{abs_row_on}
 use Rattle.columns.proofs.dense_rows.Given as goal
 
 abbrev pub invariant-loop-r : goal.invariant-loop-r
-invariant-loop-r l = Reached (λ i v. abs_row_on l.rows.0 l.factory l.lesson l.n1 l.n2 i +ᶠ v) l.r l.initial.y l.y × (l.r-end ≡ length l.initial.y)
+invariant-loop-r l = Reached (λ i v. abs_row_on l.rows.0 l.factory l.lesson l.n1 l.n2 i +ᶠ v) l.r l.initial.y l.y

@@ -3,7 +3,6 @@ use Prim.Native.Nat.{◌+◌}
 use native.Mathlib.Omega.{arith}
 use mathlib.Core.Path.{◌≡◌, ◌∙◌}
 use mathlib.Core.List.{List, [], ◌∷◌, ◌++◌}
-use borrow.Author.Rules.{rules}
 use lib.Ieee.{Float, neg}
 use lib.ListN.{length, drop}
 use Rattle.rules.specs.Helpers.{one, magnitude, reciprocal}
@@ -16,7 +15,6 @@ use Rattle.rules.specs.declared.Criteria.TheVariants.{Conv}
 use Rattle.rules.specs.Vectors.{norm_by}
 use Rattle.rules.specs.Criteria.{tau_of, primal_residual, dual_residual, gap, converging}
 use Rattle.rules.proofs.Parts.{put, lent_2, first_put, next_put}
-use Rattle.shape.proofs.Fitting.{c_stored, b_stored}
 use Rattle.criteria.proofs.criteria_conv.Goals as goal
 
 module _ (k : Embed) (x : List Float) (scale : Float) (is : scale ≡ reciprocal (tau_of k x)) where
@@ -38,17 +36,11 @@ conv_is : (k : Embed) (ns : Norms) (x rx p q : List Float) (np nq g : Float) →
 unfolding converging
 conv_is k ns x rx p q np nq g hp hq hnp hnq hg rx' both = record { says = rw (hnp, hnq, hp, hq, hg); rx_left = both ∙ rw (hp, hq) }
 
-pub primal_residual-pri-requires : goal.primal_residual-pri-requires
-primal_residual-pri-requires c = record { sized = c.requires.fits.matrix; stored = b_stored c.requires.fits; like_x = c.requires.like_x; p_len = search rules }
-
-pub dual_residual-dual-requires : goal.dual_residual-dual-requires
-dual_residual-dual-requires c = record { sized = c.requires.fits.matrix; stored = c_stored c.requires.fits; like_x = c.requires.like_x; d_len = search rules }
-
 pub returns : goal.returns
 unfolding one
 returns c = let e = embed_in c.args.edition c.args.shape c.args.c.now (slices c.args.a1.now c.args.a2.now) c.args.b.now in
-    let p_length : length c.primal_residual-pri.new.p ≡ c.args.shape.rows.0 = omega (arith, c.requires, c.primal_residual-pri.auto, c.primal_residual-arg-1) in
-    let q_length : length c.dual_residual-dual.new.d ≡ c.args.shape.cols.0 = omega (arith, c.requires, c.dual_residual-dual.auto, c.dual_residual-arg-1) in
+    let p_length : length c.primal_residual-pri.new.p ≡ c.args.shape.rows.0 = omega (arith, c.requires, c.primal_residual-pri.auto) in
+    let q_length : length c.dual_residual-dual.new.d ≡ c.args.shape.cols.0 = omega (arith, c.requires, c.dual_residual-dual.auto) in
     let pri = primal_is e c.args.x.now c.reciprocal-scale.result c.reciprocal-scale.ensures c.primal_residual-pri.new.p c.primal_residual-pri.ensures.p_left in
     let dual = dual_is e c.args.x.now c.reciprocal-scale.result c.reciprocal-scale.ensures (part c.args.shape.rows.0 c.args.shape.cols.0 c.args.rx.now) c.dual_residual-dual.new.d (rw (lent_2 c.args.shape.rows.0 c.args.shape.cols.0 1 c.args.rx.now c.primal_residual-pri.new.p c.dual_residual-dual.new.d p_length q_length) at c.dual_residual-dual.ensures.d_left) in
     let both : put c.args.shape.rows.0 (c.args.shape.rows.0 + c.args.shape.cols.0) (put 0 c.args.shape.rows.0 c.args.rx.now c.primal_residual-pri.new.p) c.dual_residual-dual.new.d ≡ c.primal_residual-pri.new.p ++ c.dual_residual-dual.new.d ++ drop (c.args.shape.rows.0 + c.args.shape.cols.0) c.args.rx.now = rw (first_put c.args.shape.rows.0 c.args.shape.cols.0 1 c.args.rx.now c.primal_residual-pri.new.p c.dual_residual-dual.new.d p_length q_length) (next_put c.args.shape.rows.0 (c.args.shape.rows.0 + c.args.shape.cols.0) c.primal_residual-pri.new.p c.args.rx.now p_length (omega arith) c.dual_residual-dual.new.d) in

@@ -3,7 +3,6 @@ use Prim.Native.Nat.{◌+◌}
 use native.Mathlib.Omega.{arith}
 use mathlib.Core.Path.{◌≡◌, refl, ◌∙◌}
 use mathlib.Core.List.{List, [], ◌∷◌, ◌++◌}
-use borrow.Author.Rules.{rules}
 use lib.Ieee.{Float, neg}
 use lib.ListN.{length, drop}
 use Rattle.rules.specs.Helpers.{one}
@@ -39,17 +38,11 @@ inf_is : (k : Embed) (eps : Float) (ns : Norms) (x rx p q : List Float) (u v : F
 unfolding diverging
 inf_is k eps ns x rx p q u v hp hq hu hv rx' both = record { says = rw (hu, hv, hp, hq); rx_left = both ∙ rw (hp, hq) }
 
-pub ray-pri-requires : goal.ray-pri-requires
-ray-pri-requires c = record { sized = c.requires.fits.matrix; like_x = c.requires.like_x; p_len = search rules }
-
-pub dual_ray-dual-requires : goal.dual_ray-dual-requires
-dual_ray-dual-requires c = record { sized = c.requires.fits.matrix; like_x = c.requires.like_x; d_len = search rules }
-
 pub returns : goal.returns
 unfolding one
 returns c = let e = embed_in c.args.par.«edition» c.args.shape c.args.c.now (slices c.args.a1.now c.args.a2.now) c.args.b.now in
-    let p_length : length c.ray-pri.new.p ≡ c.args.shape.rows.0 = omega (arith, c.requires, c.ray-pri.auto, c.ray-arg-1) in
-    let q_length : length c.dual_ray-dual.new.d ≡ c.args.shape.cols.0 = omega (arith, c.requires, c.dual_ray-dual.auto, c.dual_ray-arg-1) in
+    let p_length : length c.ray-pri.new.p ≡ c.args.shape.rows.0 = omega (arith, c.requires, c.ray-pri.auto) in
+    let q_length : length c.dual_ray-dual.new.d ≡ c.args.shape.cols.0 = omega (arith, c.requires, c.dual_ray-dual.auto) in
     let pri = ray_is e c.args.x.now c.ray-pri.new.p c.ray-pri.ensures.p_left in
     let dual = dual_is e c.args.x.now (part c.args.shape.rows.0 c.args.shape.cols.0 c.args.rx.now) c.dual_ray-dual.new.d (rw (lent_2 c.args.shape.rows.0 c.args.shape.cols.0 1 c.args.rx.now c.ray-pri.new.p c.dual_ray-dual.new.d p_length q_length) at c.dual_ray-dual.ensures.d_left) in
     let both : put c.args.shape.rows.0 (c.args.shape.rows.0 + c.args.shape.cols.0) (put 0 c.args.shape.rows.0 c.args.rx.now c.ray-pri.new.p) c.dual_ray-dual.new.d ≡ c.ray-pri.new.p ++ c.dual_ray-dual.new.d ++ drop (c.args.shape.rows.0 + c.args.shape.cols.0) c.args.rx.now = rw (first_put c.args.shape.rows.0 c.args.shape.cols.0 1 c.args.rx.now c.ray-pri.new.p c.dual_ray-dual.new.d p_length q_length) (next_put c.args.shape.rows.0 (c.args.shape.rows.0 + c.args.shape.cols.0) c.ray-pri.new.p c.args.rx.now p_length (omega arith) c.dual_ray-dual.new.d) in

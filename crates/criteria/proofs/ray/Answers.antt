@@ -1,9 +1,7 @@
 -- `criteria::ray` meets its contract.
 use Prim.Native.Nat.{◌+◌}
 use native.Mathlib.Omega.{arith}
-use mathlib.Core.Path.{refl, sym, ◌∙◌}
-use mathlib.Core.List.{[], ◌∷◌}
-use borrow.Author.Rules.{rules}
+use mathlib.Core.Path.{sym, ◌∙◌}
 use Rattle.rules.specs.Helpers.{one}
 use Rattle.rules.specs.Step.{part}
 use Rattle.rules.proofs.Kernels.{add_ruled}
@@ -12,7 +10,7 @@ use Rattle.matop.proofs.ByStorage.{split_op_ruled}
 use Rattle.shape.proofs.Fitting.{long_x, long_s}
 use Rattle.criteria.proofs.ray.Goals as goal
 
-pub returns : goal.returns
+pub returns-clause-p_left : goal.returns-clause-p_left
 unfolding one
-returns c = let first = add_ruled (part (c.args.shape.cols.0 + c.args.shape.rows.0) c.args.shape.rows.0 c.args.x.now) (rw (places (c.args.shape.cols.0 + c.args.shape.rows.0) c.args.shape.rows.0) at c.copy.ensures) (long_s c.requires.like_x ∙ sym c.requires.p_len) in
-    let second = split_op_ruled (part 0 c.args.shape.cols.0 c.args.x.now) (rw (from_start c.args.shape.cols.0) at c.op_by.ensures) c.requires.sized (long_x c.requires.like_x) (omega (arith, c.copy.auto, c.requires.p_len)) in record { p_left = second ∙ rw first; is_norm = c.norm_by.ensures }
+returns-clause-p_left c = let first = add_ruled (part (c.args.shape.cols.0 + c.args.shape.rows.0) c.args.shape.rows.0 c.args.x.now) (rw (places (c.args.shape.cols.0 + c.args.shape.rows.0) c.args.shape.rows.0) at c.copy.ensures) (long_s c.requires.like_x ∙ sym c.requires.p_len) in
+    let second = split_op_ruled (part 0 c.args.shape.cols.0 c.args.x.now) (rw (from_start c.args.shape.cols.0) at c.op_by.ensures) c.requires.sized (long_x c.requires.like_x) (omega (arith, c.copy.auto, c.requires.p_len)) in second ∙ rw first

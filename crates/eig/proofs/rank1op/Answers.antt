@@ -1,9 +1,6 @@
 -- `eig::rank1op` meets its contract.
-use Prim.Native.Nat.{◌-◌}
-use mathlib.Core.Path.{◌≡◌}
 use borrow.Author.Rules.{rules}
-use lib.ListN.{length}
-use Rattle.eig.proofs.Rank1.{ColumnsTo, columns_none, columns_more, columns_all}
+use Rattle.eig.proofs.Rank1.{columns_none, columns_more, columns_all}
 use Rattle.eig.proofs.rank1op.Goals as goal
 
 pub loop-c-init : goal.loop-c-init

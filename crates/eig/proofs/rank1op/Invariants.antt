@@ -1,9 +1,7 @@
 -- `eig::rank1op` meets its contract.
-use Prim.Native.Nat.{◌-◌}
 use mathlib.Core.Path.{◌≡◌}
-use borrow.Author.Rules.{rules}
 use lib.ListN.{length}
-use Rattle.eig.proofs.Rank1.{ColumnsTo, columns_none, columns_more, columns_all}
+use Rattle.eig.proofs.Rank1.{ColumnsTo}
 use Rattle.eig.proofs.rank1op.Given as goal
 
 abbrev pub invariant-loop-c : goal.invariant-loop-c

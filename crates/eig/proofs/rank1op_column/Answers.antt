@@ -1,12 +1,11 @@
 -- `eig::rank1op_column` meets its contract.
 use native.Mathlib.Omega.{arith}
-use Prim.Native.Nat.{ℕ, ◌+◌, ◌-◌, ◌≤◌}
-use mathlib.Core.Path.{◌≡◌, ap}
+use Prim.Native.Nat.{ℕ, ◌+◌}
+use mathlib.Core.Path.{ap}
 use lib.ListN.{length}
-use Rattle.rules.specs.Matrices.{triangle}
 use Rattle.rules.proofs.Triangle.{triangle_inside}
 use Rattle.matrix.proofs.Counted.{counted_small}
-use Rattle.eig.proofs.Rank1.{ColumnTo, column_none, column_more, column_all}
+use Rattle.eig.proofs.Rank1.{column_none, column_more, column_all}
 use borrow.Author.Rules.{rules}
 use Rattle.eig.proofs.rank1op_column.Goals as goal
 

@@ -1,17 +1,17 @@
 -- `eig::rebuild` meets its contract.
-use Prim.Native.Nat.{◌+◌, ◌-◌, ◌*◌, ◌≤◌}
+use Prim.Native.Nat.{◌+◌, ◌*◌, ◌≤◌}
 use native.Mathlib.Omega.{arith}
 use mathlib.Core.Path.{ap, ◌∙◌}
-use mathlib.Core.Logic.{⊎_elim}
 use borrow.Author.Rules.{rules}
 use lib.ListN.{length}
 use Rattle.rules.specs.Limits.{limit}
-use Rattle.eig.proofs.Rank1.{RebuiltTo, rebuilt_none, rebuilt_off, rebuilt_on, rebuilt_all, lent, lent_length, lent_inside}
+use Rattle.eig.proofs.Rank1.{rebuilt_none, rebuilt_off, rebuilt_on, rebuilt_all, lent, lent_length, lent_inside}
+use Rattle.eig.proofs.Diagonal.{cleared}
 use Rattle.eig.proofs.rebuild.Goals as goal
 use Rattle.eig.proofs.rebuild.Goals.{then-e, else-e}
 
 pub loop-k-init : goal.loop-k-init
-loop-k-init c = (rebuilt_none _ _ _ _ (search rules) c.clear.ensures, search rules)
+loop-k-init c = (rebuilt_none _ _ _ _ (search rules) (cleared _ (c.fill.ensures.after (λ y h. h))), search rules)
 
 pub overflow_mul-from : goal.overflow_mul-from
 overflow_mul-from c =

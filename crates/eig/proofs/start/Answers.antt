@@ -1,14 +1,13 @@
 -- `eig::start` meets its contract.
-use Prim.Native.Nat.{◌-◌, ◌≤◌}
 use native.Mathlib.Omega.{arith}
 use borrow.Author.Rules.{rules}
-use Rattle.rules.specs.Limits.{limit}
 use Rattle.rules.specs.Helpers.{one}
-use Rattle.eig.proofs.Diagonal.{UnitTo, unit_none, unit_inside, unit_more, unit_all}
+use Rattle.eig.proofs.Diagonal.{unit_none, unit_inside, unit_more, unit_all}
+use Rattle.eig.proofs.Diagonal.{cleared}
 use Rattle.eig.proofs.start.Goals as goal
 
 pub loop-k-init : goal.loop-k-init
-loop-k-init c = (unit_none _ _ _ (search rules) c.clear.ensures, search rules)
+loop-k-init c = (unit_none _ _ _ (search rules) (cleared _ (c.fill.ensures.after (λ y h. h))), search rules)
 
 pub overflow_mul-z : goal.overflow_mul-z
 overflow_mul-z c = omega (arith, unit_inside c.loop-k.invariant.0 (omega arith) (omega arith))

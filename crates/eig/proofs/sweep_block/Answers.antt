@@ -1,10 +1,8 @@
 -- `eig::sweep_block` meets its contract.
 use Rattle.eig.proofs.Halves.{swept_block}
 use mathlib.Core.Path.{◌∙◌, ap}
-use mathlib.Core.List.{List}
 use lib.Ieee.{Float}
 use Rattle.rules.specs.Projections.{diagonal_times}
-use borrow.Author.Rules.{rules}
 use Rattle.eig.proofs.sweep_block.Goals as goal
 
 pub returns : goal.returns

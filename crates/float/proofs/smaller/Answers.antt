@@ -3,9 +3,9 @@ use mathlib.Core.Path.{sym, ◌∙◌}
 use mathlib.Core.Logic.{inl, inr}
 use lib.Ieee.{sub, neg}
 use Rattle.rules.specs.Helpers.{smaller}
-use Rattle.rules.proofs.Helpers.{zero_is, smaller_of_others}
+use Rattle.rules.proofs.Helpers.{zero_is}
 use Rattle.rules.proofs.Matrices.{both_true}
-use borrow.Author.Rules.{rules}
+use Rattle.float.proofs.Library.{min_of_others}
 use Rattle.float.proofs.smaller.Goals as goal
 
 pub returns-then-both_zero : goal.returns-then-both_zero
@@ -19,4 +19,4 @@ returns-then-both_zero c = let zeros = both_true _ _ (sym c.both_zero.ensures �
     ]
 
 pub returns-else-both_zero : goal.returns-else-both_zero
-returns-else-both_zero c = c.picked-of_others.ensures ∙ sym (smaller_of_others c.args.a c.args.b (sym c.both_zero.ensures ∙ c.if-both_zero.false))
+returns-else-both_zero c = min_of_others c.args.a c.args.b _ (rw c.well_formed.0.1 tt) (rw c.well_formed.1.0.1 tt) (sym c.both_zero.ensures ∙ c.if-both_zero.false) c.min-of_others.ensures.value

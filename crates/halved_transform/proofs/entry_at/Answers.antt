@@ -1,6 +1,5 @@
 -- `halved_transform::entry_at` meets its contract.
-use mathlib.Core.Path.{◌≡◌, sym, ◌∙◌, ap}
-use borrow.Author.Rules.{rules}
+use mathlib.Core.Path.{◌∙◌}
 use Rattle.rules.specs.Matrices.{entry}
 use Rattle.rules.proofs.Matrices.{stored_inside}
 use Rattle.halved_transform.proofs.entry_at.Goals as goal
@@ -15,12 +14,12 @@ pub returns-then-transpose : goal.returns-then-transpose
 unfolding entry
 returns-then-transpose c = rw c.if-transpose.true (c.stored_at.ensures ∙ rw c.place.ensures)
 
-pub place-requires-2 : goal.place-requires-2
-place-requires-2 c = record { r_bound = rw c.if-transpose.false at c.requires.r_bound; c_bound = rw c.if-transpose.false at c.requires.c_bound; t_bound = c.requires.stored.rows; t_bound_2 = c.requires.stored.cols }
+pub place-requires-else-transpose : goal.place-requires-else-transpose
+place-requires-else-transpose c = record { r_bound = rw c.if-transpose.false at c.requires.r_bound; c_bound = rw c.if-transpose.false at c.requires.c_bound; t_bound = c.requires.stored.rows; t_bound_2 = c.requires.stored.cols }
 
-pub stored_at-requires-2 : goal.stored_at-requires-2
-stored_at-requires-2 c = rw c.place-2.ensures (stored_inside c.requires.stored _ _ (rw c.if-transpose.false at c.requires.r_bound) (rw c.if-transpose.false at c.requires.c_bound))
+pub stored_at-requires-else-transpose : goal.stored_at-requires-else-transpose
+stored_at-requires-else-transpose c = rw c.place-else-transpose.ensures (stored_inside c.requires.stored _ _ (rw c.if-transpose.false at c.requires.r_bound) (rw c.if-transpose.false at c.requires.c_bound))
 
-pub returns : goal.returns
+pub returns-else-transpose : goal.returns-else-transpose
 unfolding entry
-returns c = rw c.if-transpose.false (c.stored_at-2.ensures ∙ rw c.place-2.ensures)
+returns-else-transpose c = rw c.if-transpose.false (c.stored_at-else-transpose.ensures ∙ rw c.place-else-transpose.ensures)

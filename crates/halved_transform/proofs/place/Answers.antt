@@ -1,9 +1,6 @@
 -- `halved_transform::place` meets its contract.
-use Prim.Native.Nat.{◌≤◌, ◌<◌}
 use native.Mathlib.Omega.{arith}
-use borrow.Author.Rules.{rules}
-use Rattle.rules.specs.Limits.{limit}
-use Rattle.rules.specs.Matrices.{place, n_row, n_col}
+use Rattle.rules.specs.Matrices.{place}
 use Rattle.rules.proofs.Matrices.{product_small}
 use Rattle.halved_transform.proofs.place.Goals as goal
 

@@ -1,7 +1,6 @@
 -- `jacobi::is_rotated` meets its contract.
 use mathlib.Core.Path.{◌∙◌}
 use Rattle.jacobi.proofs.Angles.{test_read}
-use borrow.Author.Rules.{rules}
 use Rattle.jacobi.proofs.is_rotated.Goals as goal
 
 pub returns : goal.returns

@@ -1,6 +1,5 @@
 -- `jacobi::pair` meets its contract.
 use mathlib.Core.Path.{sym, ◌∙◌}
-use borrow.Author.Rules.{rules}
 use Rattle.jacobi.proofs.Sweeps.{pair_on, pair_off}
 use Rattle.jacobi.proofs.pair.Goals as goal
 

@@ -3,7 +3,6 @@ use native.Mathlib.Omega.{arith}
 use Prim.Native.Nat.{◌<◌}
 use lib.ListN.{length}
 use Rattle.jacobi.proofs.Matrix.{corners_inside, corners_read}
-use borrow.Author.Rules.{rules}
 use Rattle.jacobi.proofs.read_corners.Goals as goal
 
 pub offset_bounds-x-ii : goal.offset_bounds-x-ii

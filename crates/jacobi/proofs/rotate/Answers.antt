@@ -1,9 +1,7 @@
 -- `jacobi::rotate` meets its contract.
 use mathlib.Core.Path.{◌∙◌}
-use Rattle.rules.specs.Jacobi.{cosine}
 use Rattle.jacobi.proofs.Angles.{tangent_read}
 use Rattle.jacobi.proofs.Sweeps.{rotated_by}
-use borrow.Author.Rules.{rules}
 use Rattle.jacobi.proofs.rotate.Goals as goal
 
 pub returns : goal.returns

@@ -4,7 +4,6 @@ use Prim.Native.Nat.{◌<◌}
 use lib.ListN.{length, length-set}
 use Rattle.rules.proofs.Projections.{two_is}
 use Rattle.jacobi.proofs.Matrix.{corners_inside, rotated_stores}
-use borrow.Author.Rules.{rules}
 use Rattle.jacobi.proofs.rotate_matrix.Goals as goal
 
 pub offset_bounds-x-ii : goal.offset_bounds-x-ii

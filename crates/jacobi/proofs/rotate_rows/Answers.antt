@@ -1,9 +1,8 @@
 -- `jacobi::rotate_rows` meets its contract.
-use Prim.Native.Nat.{◌-◌, ◌≤◌, ◌<◌}
 use mathlib.Core.Path.{sym, ◌∙◌}
 use borrow.Author.Rules.{rules}
 use Rattle.rules.proofs.Columns.{packed_place_mirrored}
-use Rattle.jacobi.proofs.Matrix.{SpanTo, span_none, span_inside, span_more, span_all}
+use Rattle.jacobi.proofs.Matrix.{span_none, span_inside, span_more, span_all}
 use Rattle.jacobi.proofs.rotate_rows.Goals as goal
 
 -- ---- the rows before i

@@ -1,8 +1,7 @@
 -- `jacobi::rotate_vectors` meets its contract.
-use Prim.Native.Nat.{◌-◌}
 use native.Mathlib.Omega.{arith}
 use borrow.Author.Rules.{rules}
-use Rattle.jacobi.proofs.Vectors.{VectorsTo, vectors_none, inside_i, inside_j, vectors_more, vectors_all}
+use Rattle.jacobi.proofs.Vectors.{vectors_none, inside_i, inside_j, vectors_more, vectors_all}
 use Rattle.jacobi.proofs.rotate_vectors.Goals as goal
 
 pub loop-k-init : goal.loop-k-init

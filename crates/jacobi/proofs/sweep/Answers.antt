@@ -1,10 +1,6 @@
 -- `jacobi::sweep` meets its contract.
-use Prim.Native.Nat.{◌+◌, ◌-◌, ◌*◌, ◌≤◌}
 use borrow.Author.Rules.{rules}
-use Rattle.rules.specs.Jacobi.{packed, square}
-use Rattle.jacobi.specs.Sizes.{most_rotations}
-use Rattle.jacobi.specs.Loops.{state}
-use Rattle.jacobi.proofs.Sweeps.{SweepTo, sweep_first, sweep_room, sweep_next, sweep_last}
+use Rattle.jacobi.proofs.Sweeps.{sweep_first, sweep_room, sweep_next, sweep_last}
 use Rattle.jacobi.proofs.sweep.Goals as goal
 
 pub loop-i-init : goal.loop-i-init

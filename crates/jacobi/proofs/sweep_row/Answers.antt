@@ -1,11 +1,7 @@
 -- `jacobi::sweep_row` meets its contract.
-use Prim.Native.Nat.{◌+◌, ◌-◌, ◌≤◌}
 use native.Mathlib.Omega.{arith}
 use borrow.Author.Rules.{rules}
-use Rattle.rules.specs.Jacobi.{packed, square}
-use Rattle.jacobi.specs.Sizes.{most_rotations}
-use Rattle.jacobi.specs.Loops.{state}
-use Rattle.jacobi.proofs.Sweeps.{RowTo, row_first, row_made, row_next, row_last}
+use Rattle.jacobi.proofs.Sweeps.{row_first, row_made, row_next, row_last}
 use Rattle.jacobi.proofs.sweep_row.Goals as goal
 
 pub loop-j-init : goal.loop-j-init

@@ -1,12 +1,9 @@
 -- `linalg::add` meets its contract.
-use Prim.Native.Nat.{◌-◌}
-use mathlib.Core.Path.{◌≡◌, refl, sym}
-use lib.ListN.{length}
+use mathlib.Core.Path.{sym}
 use borrow.Author.Tests.{eq-eqb, ne_eqb}
 use Rattle.rules.proofs.Outcome.{refused, done}
-use Rattle.rules.specs.Arithmetic.{◌+ᶠ◌, ◌*ᶠ◌, at}
 use Rattle.rules.specs.Vectors.{added}
-use Rattle.rules.proofs.Arithmetic.{Reached, reached_none, reached_more, reached_all}
+use Rattle.rules.proofs.Arithmetic.{reached_none, reached_more, reached_all}
 use borrow.Author.Rules.{rules}
 use Rattle.linalg.proofs.add.Goals as goal
 
@@ -14,10 +11,10 @@ pub returns-then-y-x : goal.returns-then-y-x
 returns-then-y-x c = refused (ne_eqb _ _ (λ e. c.if-y-x.true (sym e)))
 
 pub loop-i-init : goal.loop-i-init
-loop-i-init c = (reached_none _ _, search rules, refl)
+loop-i-init c = (reached_none _ _, search rules)
 
 pub loop-i-preserved : goal.loop-i-preserved
-loop-i-preserved c = (reached_more c.loop-i.invariant.0 (search rules), search rules, search rules)
+loop-i-preserved c = (reached_more c.loop-i.invariant.0 (search rules), search rules)
 
 pub returns : goal.returns
 unfolding added

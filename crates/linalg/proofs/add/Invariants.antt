@@ -1,14 +1,9 @@
 -- `linalg::add` meets its contract.
-use Prim.Native.Nat.{◌-◌}
-use mathlib.Core.Path.{◌≡◌, refl, sym}
+use mathlib.Core.Path.{◌≡◌}
 use lib.ListN.{length}
-use borrow.Author.Tests.{eq-eqb, ne_eqb}
-use Rattle.rules.proofs.Outcome.{refused, done}
 use Rattle.rules.specs.Arithmetic.{◌+ᶠ◌, ◌*ᶠ◌, at}
-use Rattle.rules.specs.Vectors.{added}
-use Rattle.rules.proofs.Arithmetic.{Reached, reached_none, reached_more, reached_all}
-use borrow.Author.Rules.{rules}
+use Rattle.rules.proofs.Arithmetic.{Reached}
 use Rattle.linalg.proofs.add.Given as goal
 
 abbrev pub invariant-loop-i : goal.invariant-loop-i
-invariant-loop-i l = Reached (λ k v. v +ᶠ l.alpha *ᶠ at l.x k) l.i l.initial.y l.y × (length l.x ≡ length l.initial.y) × (l.i-end ≡ length l.x)
+invariant-loop-i l = Reached (λ k v. v +ᶠ l.alpha *ᶠ at l.x k) l.i l.initial.y l.y × (length l.x ≡ length l.initial.y)

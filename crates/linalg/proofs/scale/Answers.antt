@@ -1,19 +1,15 @@
 -- `linalg::scale` meets its contract.
 use borrow.Author.Rules.{rules}
-use Prim.Native.Nat.{◌-◌}
-use mathlib.Core.Path.{◌≡◌, refl}
-use lib.ListN.{length}
-use Rattle.rules.specs.Arithmetic.{◌*ᶠ◌}
 use Rattle.rules.specs.Vectors.{scaled}
-use Rattle.rules.proofs.Arithmetic.{Reached, reached_none, reached_more, reached_all}
+use Rattle.rules.proofs.Arithmetic.{reached_none, reached_more, reached_all}
 use Rattle.linalg.proofs.scale.Goals as goal
 
-pub loop-i-init : goal.loop-i-init
-loop-i-init c = (reached_none _ _, refl)
+pub loop-v-init : goal.loop-v-init
+loop-v-init c = reached_none _ _
 
-pub loop-i-preserved : goal.loop-i-preserved
-loop-i-preserved c = (reached_more c.loop-i.invariant.0 (search rules), search rules)
+pub loop-v-preserved : goal.loop-v-preserved
+loop-v-preserved c = reached_more c.loop-v.invariant (search rules)
 
 pub returns : goal.returns
 unfolding scaled
-returns c = reached_all c.loop-i.invariant.0 (search rules)
+returns c = reached_all c.loop-v.invariant (search rules)

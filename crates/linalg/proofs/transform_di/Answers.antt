@@ -1,12 +1,9 @@
 -- `linalg::transform_di` meets its contract.
-use Prim.Native.Nat.{◌-◌}
-use mathlib.Core.Path.{◌≡◌, refl, sym, ◌∙◌}
-use lib.ListN.{length}
+use mathlib.Core.Path.{sym, ◌∙◌}
 use borrow.Author.Rules.{rules}
 use borrow.Author.Tests.{eq-eqb, ne_eqb}
-use Rattle.rules.specs.Arithmetic.{◌+ᶠ◌, ◌*ᶠ◌, at}
 use Rattle.rules.specs.Vectors.{transformed_di}
-use Rattle.rules.proofs.Arithmetic.{Reached, reached_none, reached_more, reached_all}
+use Rattle.rules.proofs.Arithmetic.{reached_none, reached_more, reached_all}
 use Rattle.rules.proofs.Outcome.{refused, done}
 use Rattle.linalg.proofs.transform_di.Goals as goal
 
@@ -17,10 +14,10 @@ pub returns-then-mat-x : goal.returns-then-mat-x
 returns-then-mat-x c = refused (rw (eq-eqb _ _ c.if-mat-y.false) (ne_eqb _ _ (λ e. c.if-mat-x.true (c.if-mat-y.false ∙ sym e))))
 
 pub loop-i-init : goal.loop-i-init
-loop-i-init c = (reached_none _ _, search rules, search rules, refl)
+loop-i-init c = (reached_none _ _, search rules, search rules)
 
 pub loop-i-preserved : goal.loop-i-preserved
-loop-i-preserved c = (reached_more c.loop-i.invariant.0 (search rules), search rules, search rules, search rules)
+loop-i-preserved c = (reached_more c.loop-i.invariant.0 (search rules), search rules, search rules)
 
 pub returns : goal.returns
 unfolding transformed_di

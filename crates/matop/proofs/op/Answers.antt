@@ -1,5 +1,4 @@
 -- `matop::op` meets its contract.
-use borrow.Author.Rules.{rules}
 use Rattle.rules.specs.Matrices.{opped_by}
 use Rattle.matop.specs.Operated.{operated}
 use Rattle.matop.proofs.op.Goals as goal

@@ -1,6 +1,5 @@
 -- `matop::operate` meets its contract.
 use mathlib.Core.Path.{sym, ◌∙◌}
-use borrow.Author.Rules.{rules}
 use borrow.Author.Tests.{not-true, not-false}
 use Rattle.rules.proofs.Outcome.{refused, done}
 use Rattle.matop.proofs.Operator.{scales_if_empty, transforms, transforms_packed}

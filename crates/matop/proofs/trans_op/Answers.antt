@@ -1,5 +1,4 @@
 -- `matop::trans_op` meets its contract.
-use borrow.Author.Rules.{rules}
 use Rattle.rules.specs.Matrices.{trans_opped_by}
 use Rattle.matop.specs.Operated.{operated}
 use Rattle.matop.proofs.trans_op.Goals as goal

@@ -1,6 +1,5 @@
 -- `matrix::stored_length` meets its contract: sizes within the limits can be multiplied.
 use native.Mathlib.Omega.{arith}
-use borrow.Author.Rules.{rules}
 use Rattle.rules.proofs.Matrices.{product_small}
 use Rattle.matrix.proofs.Counted.{counted_small}
 use Rattle.matrix.proofs.stored_length.Goals as goal

@@ -1,7 +1,6 @@
 -- `matrix::triangle` meets its contract.
 use native.Mathlib.Omega.{arith}
 use mathlib.Core.Path.{sym}
-use borrow.Author.Rules.{rules}
 use Rattle.matrix.proofs.Counted.{counted_is, counted_fits, counted_above}
 use Rattle.matrix.proofs.triangle.Goals as goal
 

@@ -1,8 +1,5 @@
-use Prim.Native.Nat.{ℕ, ◌<◌}
 use native.Mathlib.Omega.{arith}
-use mathlib.Core.Path.{◌≡◌, refl, sym, ◌∙◌, ap}
-use mathlib.Core.Bool.{cond}
-use mathlib.Core.Logic.{⊎_elim}
+use mathlib.Core.Path.{sym, ◌∙◌, ap}
 use borrow.Author.Rules.{rules}
 use lib.Ieee.{binary64, of_bits, nan_bits, div}
 use Rattle.rules.specs.Arithmetic.{◌*ᶠ◌}
@@ -11,7 +8,7 @@ use Rattle.rules.specs.Vectors.{two^600}
 use Rattle.rules.proofs.LargeNorms.{norm_of_other_sum, norm_of_not_finite, norm_of_large}
 use Rattle.norms.proofs.ByEdition.{smaller-sum}
 use Rattle.norms.proofs.+norm_by_halves.Goals as goal
-use Rattle.norms.proofs.+norm_by_halves.Goals.{then-sum+else-all_finite, else-sum}
+use Rattle.norms.proofs.+norm_by_halves.Goals.{else-sum-via-then-sum+else-all_finite, else-sum-via-else-sum}
 
 pub float_from_bits-up : goal.float_from_bits-up
 unfolding nan_bits
@@ -40,4 +37,4 @@ returns t c =
     let small = c.if-smaller.false in
     let sum_is_lem = rw small at c.squares_by_halves-sum.ensures in
     rw small (c.root-2.ensures ∙ ap (root binary64) sum_is_lem
-    ∙ sym (elim c.if-sum.branch [ then-sum+else-all_finite w ↦ norm_of_not_finite 2 x (sym w.all_finite.ensures ∙ w.if-all_finite.false) | else-sum w ↦ norm_of_other_sum 2 x (rw sum_is_lem at w.if-sum.false) ]))
+    ∙ sym (elim c.else-sum.branch [ else-sum-via-then-sum+else-all_finite w ↦ norm_of_not_finite 2 x (sym w.all_finite.ensures ∙ w.if-all_finite.false) | else-sum-via-else-sum w ↦ norm_of_other_sum 2 x (rw sum_is_lem at w.if-sum.false) ]))

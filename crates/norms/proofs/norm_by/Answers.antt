@@ -1,7 +1,6 @@
 -- `norms::norm_by` meets its contract.
 use native.Mathlib.Omega.{arith}
 use mathlib.Core.Path.{◌≡◌}
-use borrow.Author.Rules.{rules}
 use Rattle.norms.proofs.norm_by.Goals as goal
 
 pub returns : goal.returns

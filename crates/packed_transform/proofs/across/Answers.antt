@@ -1,13 +1,10 @@
 -- `packed_transform::across` meets its contract.
 use borrow.Author.Rules.{rules}
 use native.Mathlib.Omega.{arith}
-use Prim.Native.Nat.{◌+◌, ◌-◌, ◌≤◌}
-use mathlib.Core.Path.{◌≡◌, refl}
+use mathlib.Core.Path.{refl}
 use lib.ListN.{length}
-use Rattle.rules.specs.Arithmetic.{◌+ᶠ◌}
-use Rattle.rules.proofs.Arithmetic.{Reached, reached_none, reached_all}
-use Rattle.side_by_side.proofs.SideBySide.{SummedOver, summed_over_none, summed_over_more, summed_over_all}
-use Rattle.packed_transform.specs.Lines.{term}
+use Rattle.rules.proofs.Arithmetic.{reached_none, reached_all}
+use Rattle.side_by_side.proofs.SideBySide.{summed_over_none, summed_over_more, summed_over_all}
 use Rattle.packed_transform.proofs.Passes.{stored, next_sum}
 use Rattle.packed_transform.proofs.across.Goals as goal
 

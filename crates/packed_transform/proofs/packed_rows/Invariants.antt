@@ -1,15 +1,11 @@
 -- `packed_transform::packed_rows` meets its contract.
-use borrow.Author.Rules.{rules}
-use native.Mathlib.Omega.{arith}
 use Prim.Native.Nat.{◌-◌}
-use mathlib.Core.Path.{◌≡◌, sym}
+use mathlib.Core.Path.{◌≡◌}
 use lib.ListN.{length}
 use Rattle.rules.specs.declared.MatType.TheVariants.{SymPack}
 use Rattle.rules.specs.Arithmetic.{◌+ᶠ◌, ◌*ᶠ◌}
-use Rattle.rules.specs.Matrices.{entry, product, transformed_by}
-use Rattle.rules.proofs.Arithmetic.{Reached, reached_none, reached_all}
-use Rattle.rules.proofs.Parts.{part-places}
-use Rattle.side_by_side.proofs.SideBySide.{reached_part}
+use Rattle.rules.specs.Matrices.{entry, product}
+use Rattle.rules.proofs.Arithmetic.{Reached}
 use Rattle.packed_transform.proofs.packed_rows.Given as goal
 
 abbrev pub invariant-loop-r : goal.invariant-loop-r

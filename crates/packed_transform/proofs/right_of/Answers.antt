@@ -1,15 +1,11 @@
 -- `packed_transform::right_of` meets its contract.
 use borrow.Author.Rules.{rules}
 use native.Mathlib.Omega.{arith}
-use Prim.Native.Nat.{◌+◌, ◌-◌, ◌≤◌}
-use mathlib.Core.Path.{◌≡◌, refl}
+use mathlib.Core.Path.{refl}
 use lib.ListN.{length}
-use Rattle.rules.specs.Arithmetic.{◌+ᶠ◌}
-use Rattle.rules.proofs.Arithmetic.{Reached, reached_none, reached_all}
-use Rattle.side_by_side.proofs.SideBySide.{SummedOver, summed_over_none, summed_over_more, summed_over_all}
-use Rattle.rules.specs.Matrices.{triangle}
+use Rattle.rules.proofs.Arithmetic.{reached_none, reached_all}
+use Rattle.side_by_side.proofs.SideBySide.{summed_over_none, summed_over_more, summed_over_all}
 use Rattle.matrix.proofs.Counted.{counted_small}
-use Rattle.packed_transform.specs.Lines.{term}
 use Rattle.packed_transform.proofs.Passes.{stored, right_place, next_sum}
 use Rattle.packed_transform.proofs.right_of.Goals as goal
 
@@ -22,8 +18,8 @@ overflow_add-top c = omega (arith, counted_small c.triangle.ensures (omega (arit
 pub loop-k-init : goal.loop-k-init
 loop-k-init c = (reached_none _ _, refl, omega (arith, counted_small c.triangle.ensures (omega (arith, c.loop-c-test.true, c.loop-c.invariant.1, c.loop-c.invariant.3, c.requires.x_len_bound))))
 
-pub overflow_add-sums : goal.overflow_add-sums
-overflow_add-sums c = omega (arith, right_place c.args.r c.loop-k.k c.loop-c.c _ c.loop-k.invariant.2 (omega (arith, c.loop-c.invariant.0.begun, c.loop-k-test.true, c.loop-k.invariant.1, c.loop-c.invariant.0.summed.same, c.loop-c.invariant.2, c.loop-c-test.true, c.loop-c.invariant.3, c.requires.x_len_bound, c.requires.sums_in_bounds)), stored (length c.args.x.now) _ c.args.r (length c.args.sums.now) c.loop-k.k c.loop-c.c c.requires.mat_len c.requires.sums_in_bounds (omega (arith, c.loop-k-test.true, c.loop-k.invariant.1, c.loop-c.invariant.0.summed.same, c.loop-c.invariant.2, c.loop-c-test.true, c.loop-c.invariant.3, c.requires.x_len_bound, c.requires.sums_in_bounds)) (omega (arith, c.loop-k-test.true, c.loop-k.invariant.1, c.loop-c.invariant.0.summed.same, c.loop-c.invariant.2, c.loop-c-test.true, c.loop-c.invariant.3, c.requires.x_len_bound, c.requires.sums_in_bounds)))
+pub overflow_add-sum : goal.overflow_add-sum
+overflow_add-sum c = omega (arith, right_place c.args.r c.loop-k.k c.loop-c.c _ c.loop-k.invariant.2 (omega (arith, c.loop-c.invariant.0.begun, c.loop-k-test.true, c.loop-k.invariant.1, c.loop-c.invariant.0.summed.same, c.loop-c.invariant.2, c.loop-c-test.true, c.loop-c.invariant.3, c.requires.x_len_bound, c.requires.sums_in_bounds)), stored (length c.args.x.now) _ c.args.r (length c.args.sums.now) c.loop-k.k c.loop-c.c c.requires.mat_len c.requires.sums_in_bounds (omega (arith, c.loop-k-test.true, c.loop-k.invariant.1, c.loop-c.invariant.0.summed.same, c.loop-c.invariant.2, c.loop-c-test.true, c.loop-c.invariant.3, c.requires.x_len_bound, c.requires.sums_in_bounds)) (omega (arith, c.loop-k-test.true, c.loop-k.invariant.1, c.loop-c.invariant.0.summed.same, c.loop-c.invariant.2, c.loop-c-test.true, c.loop-c.invariant.3, c.requires.x_len_bound, c.requires.sums_in_bounds)))
 
 pub offset_bounds-mat-top : goal.offset_bounds-mat-top
 offset_bounds-mat-top c = omega (arith, right_place c.args.r c.loop-k.k c.loop-c.c _ c.loop-k.invariant.2 (omega (arith, c.loop-c.invariant.0.begun, c.loop-k-test.true, c.loop-k.invariant.1, c.loop-c.invariant.0.summed.same, c.loop-c.invariant.2, c.loop-c-test.true, c.loop-c.invariant.3, c.requires.x_len_bound, c.requires.sums_in_bounds)), stored (length c.args.x.now) _ c.args.r (length c.args.sums.now) c.loop-k.k c.loop-c.c c.requires.mat_len c.requires.sums_in_bounds (omega (arith, c.loop-k-test.true, c.loop-k.invariant.1, c.loop-c.invariant.0.summed.same, c.loop-c.invariant.2, c.loop-c-test.true, c.loop-c.invariant.3, c.requires.x_len_bound, c.requires.sums_in_bounds)) (omega (arith, c.loop-k-test.true, c.loop-k.invariant.1, c.loop-c.invariant.0.summed.same, c.loop-c.invariant.2, c.loop-c-test.true, c.loop-c.invariant.3, c.requires.x_len_bound, c.requires.sums_in_bounds)))

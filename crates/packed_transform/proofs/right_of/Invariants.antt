@@ -1,16 +1,12 @@
 -- `packed_transform::right_of` meets its contract.
-use borrow.Author.Rules.{rules}
-use native.Mathlib.Omega.{arith}
 use Prim.Native.Nat.{◌+◌, ◌-◌, ◌≤◌}
-use mathlib.Core.Path.{◌≡◌, refl}
+use mathlib.Core.Path.{◌≡◌}
 use lib.ListN.{length}
 use Rattle.rules.specs.Arithmetic.{◌+ᶠ◌}
-use Rattle.rules.proofs.Arithmetic.{Reached, reached_none, reached_all}
-use Rattle.side_by_side.proofs.SideBySide.{SummedOver, summed_over_none, summed_over_more, summed_over_all}
+use Rattle.rules.proofs.Arithmetic.{Reached}
+use Rattle.side_by_side.proofs.SideBySide.{SummedOver}
 use Rattle.rules.specs.Matrices.{triangle}
-use Rattle.matrix.proofs.Counted.{counted_small}
 use Rattle.packed_transform.specs.Lines.{term}
-use Rattle.packed_transform.proofs.Passes.{stored, right_place, next_sum}
 use Rattle.packed_transform.proofs.right_of.Given as goal
 
 abbrev pub invariant-loop-k : goal.invariant-loop-k

@@ -1,6 +1,5 @@
 -- `packed_transform::transform_sp` meets its contract.
 use mathlib.Core.Path.{sym, ◌∙◌}
-use borrow.Author.Rules.{rules}
 use borrow.Author.Tests.{not-true, not-false}
 use mathlib.Core.Bool.{false}
 use Rattle.rules.specs.declared.MatType.TheVariants.{SymPack}

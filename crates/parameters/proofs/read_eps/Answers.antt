@@ -1,6 +1,5 @@
 -- `parameters::read_eps` meets its contract.
 use mathlib.Core.Path.{◌∙◌}
-use borrow.Author.Rules.{rules}
 use Rattle.parameters.proofs.Read.{read_zero, read_other}
 use Rattle.parameters.proofs.read_eps.Goals as goal
 

@@ -1,5 +1,4 @@
 -- `patterns::number_of` meets its contract: past the infinity's digits every pattern is a NaN's.
-use borrow.Author.Rules.{rules}
 use native.Mathlib.Omega.{arith}
 use borrow.Author.Tests.{lt-ltb, le-ltb}
 use Prim.Native.Nat.{ℕ, ◌<◌, ◌%◌}

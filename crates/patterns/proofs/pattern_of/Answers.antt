@@ -1,5 +1,4 @@
 -- `patterns::pattern_of` meets its contract: what does not equal itself is the NaN.
-use borrow.Author.Rules.{rules}
 use borrow.Author.Tests.{not-false}
 use mathlib.Core.Path.{sym, ◌∙◌, ap}
 use lib.Ieee.{binary64, to_bits, is_nan}

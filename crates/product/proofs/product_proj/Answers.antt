@@ -1,5 +1,4 @@
 -- `product::product_proj` meets its contract.
-use borrow.Author.Rules.{rules}
 use mathlib.Core.Path.{◌≡◌, sym, ◌∙◌}
 use Rattle.rules.proofs.Outcome.{product-refused}
 use Rattle.rules.specs.Product.{product_fits}

@@ -1,17 +1,9 @@
 -- `split_transform::columns_of` meets its contract.
-use borrow.Author.Rules.{rules}
-use native.Mathlib.Omega.{arith}
-use Prim.Native.Nat.{ℕ, ◌+◌, ◌-◌, ◌*◌, ◌≤◌}
-use mathlib.Core.Path.{◌≡◌, refl}
-use mathlib.Core.List.{List}
-use lib.Ieee.{Float}
-use lib.ListN.{length, take, drop}
-use Rattle.rules.specs.Limits.{limit}
+use Prim.Native.Nat.{◌-◌}
+use mathlib.Core.Path.{◌≡◌}
+use lib.ListN.{length}
 use Rattle.rules.specs.Arithmetic.{◌+ᶠ◌, ◌*ᶠ◌}
-use Rattle.rules.proofs.Arithmetic.{Reached, reached_none, reached_all}
-use Rattle.rules.proofs.Parts.{part-places}
-use Rattle.side_by_side.proofs.SideBySide.{reached_part}
-use native.Mathlib.Nat.{mul_comm, mul-le-mul_right}
+use Rattle.rules.proofs.Arithmetic.{Reached}
 use Rattle.split_transform.specs.Lines.{column_of}
 use Rattle.split_transform.proofs.columns_of.Given as goal
 

@@ -1,14 +1,14 @@
 -- `split_transform::rows_on` meets its contract.
 use borrow.Author.Rules.{rules}
 use native.Mathlib.Omega.{arith}
-use Prim.Native.Nat.{ℕ, ◌+◌, ◌-◌, ◌*◌, ◌≤◌, ◌<◌}
+use Prim.Native.Nat.{ℕ, ◌+◌, ◌*◌, ◌<◌}
 use mathlib.Core.Path.{◌≡◌, refl}
 use mathlib.Core.List.{List}
 use lib.Ieee.{Float}
 use lib.ListN.{length, set}
 use Rattle.rules.specs.Arithmetic.{◌+ᶠ◌, ◌*ᶠ◌, at}
 use Rattle.rules.proofs.Arithmetic.{Reached, reached_none, reached_more, reached_all}
-use Rattle.side_by_side.proofs.SideBySide.{SummedEach, summed_each_none, summed_each_more, summed_each_all}
+use Rattle.side_by_side.proofs.SideBySide.{summed_each_none, summed_each_more, summed_each_all}
 use Rattle.rules.proofs.Slices.{column_ends}
 use Rattle.split_transform.proofs.rows_on.Goals as goal
 
@@ -22,31 +22,31 @@ next_sum mat x m r c k start is reached inside =
     rw there (reached_more reached inside)
 
 pub loop-c-init : goal.loop-c-init
-loop-c-init c = (summed_each_none _ _, search rules, refl)
+loop-c-init c = summed_each_none _ _
 
 pub overflow_mul-start : goal.overflow_mul-start
-overflow_mul-start c = omega (arith, column_ends c.args.rows.0 (length c.args.x.now) c.loop-c.c (omega (arith, c.loop-c-test.true, c.loop-c.invariant.1)), c.requires.mat_len)
+overflow_mul-start c = omega (arith, column_ends c.args.rows.0 (length c.args.x.now) c.loop-c.c (omega arith), c.requires.mat_len)
 
 pub overflow_add-start : goal.overflow_add-start
-overflow_add-start c = omega (arith, column_ends c.args.rows.0 (length c.args.x.now) c.loop-c.c (omega (arith, c.loop-c-test.true, c.loop-c.invariant.1)), c.requires.mat_len, c.requires.sums_bound)
+overflow_add-start c = omega (arith, column_ends c.args.rows.0 (length c.args.x.now) c.loop-c.c (omega arith), c.requires.mat_len, c.requires.sums_bound)
 
 pub loop-k-init : goal.loop-k-init
-loop-k-init c = (reached_none _ _, refl, refl)
+loop-k-init c = (reached_none _ _, refl)
 
-pub overflow_add-sums : goal.overflow_add-sums
-overflow_add-sums c = omega (arith, column_ends c.args.rows.0 (length c.args.x.now) c.loop-c.c (omega (arith, c.loop-c-test.true, c.loop-c.invariant.1)), c.loop-k-test.true, c.loop-k.invariant.1, c.loop-c.invariant.0.same, c.requires.mat_len, c.requires.sums_bound)
+pub overflow_add-sum : goal.overflow_add-sum
+overflow_add-sum c = omega (arith, column_ends c.args.rows.0 (length c.args.x.now) c.loop-c.c (omega arith), c.loop-k-test.true, c.loop-c.invariant.same, c.requires.mat_len, c.requires.sums_bound)
 
 pub offset_bounds-mat-start : goal.offset_bounds-mat-start
-offset_bounds-mat-start c = omega (arith, column_ends c.args.rows.0 (length c.args.x.now) c.loop-c.c (omega (arith, c.loop-c-test.true, c.loop-c.invariant.1)), c.loop-k-test.true, c.loop-k.invariant.1, c.loop-c.invariant.0.same, c.requires.mat_len, c.requires.sums_bound)
+offset_bounds-mat-start c = omega (arith, column_ends c.args.rows.0 (length c.args.x.now) c.loop-c.c (omega arith), c.loop-k-test.true, c.loop-c.invariant.same, c.requires.mat_len, c.requires.sums_bound)
 
 pub bounds-mat-start : goal.bounds-mat-start
-bounds-mat-start c = omega (arith, column_ends c.args.rows.0 (length c.args.x.now) c.loop-c.c (omega (arith, c.loop-c-test.true, c.loop-c.invariant.1)), c.loop-k-test.true, c.loop-k.invariant.1, c.loop-c.invariant.0.same, c.requires.mat_len, c.requires.sums_bound)
+bounds-mat-start c = omega (arith, column_ends c.args.rows.0 (length c.args.x.now) c.loop-c.c (omega arith), c.loop-k-test.true, c.loop-c.invariant.same, c.requires.mat_len, c.requires.sums_bound)
 
 pub loop-k-preserved : goal.loop-k-preserved
-loop-k-preserved c = (next_sum c.args.mat.now c.args.x.now _ _ _ _ _ c.loop-k.invariant.2 c.loop-k.invariant.0 (search rules), search rules, search rules)
+loop-k-preserved c = (next_sum c.args.mat.now c.args.x.now _ _ _ _ _ c.loop-k.invariant.1 c.loop-k.invariant.0 (search rules), search rules)
 
 pub loop-c-preserved : goal.loop-c-preserved
-loop-c-preserved c = (summed_each_more c.loop-c.invariant.0 (reached_all c.loop-k.invariant.0 (search rules)), search rules, search rules)
+loop-c-preserved c = summed_each_more c.loop-c.invariant (reached_all c.loop-k.invariant.0 (search rules))
 
 pub returns : goal.returns
-returns c = summed_each_all c.loop-c.invariant.0 (search rules)
+returns c = summed_each_all c.loop-c.invariant (search rules)

@@ -2,7 +2,6 @@
 use native.Mathlib.Omega.{arith}
 use mathlib.Core.Path.{◌≡◌}
 use lib.ListN.{length}
-use borrow.Author.Rules.{rules}
 use Rattle.split_transform.proofs.Slices.{x₁_length, first_fits, rest_lent_fits, rest_lent_within, columns_put}
 use Rattle.split_transform.proofs.split_columns.Goals as goal
 

@@ -1,17 +1,12 @@
 -- `split_transform::split_rows` meets its contract.
-use borrow.Author.Rules.{rules}
-use native.Mathlib.Omega.{arith}
-use Prim.Native.Nat.{ℕ, ◌+◌, ◌-◌, ◌≤◌}
-use mathlib.Core.Path.{◌≡◌, sym}
-use mathlib.Core.List.{List, ◌++◌}
-use lib.Ieee.{Float}
-use lib.ListN.{length, take, drop}
+use Prim.Native.Nat.{◌-◌}
+use mathlib.Core.Path.{◌≡◌}
+use mathlib.Core.List.{◌++◌}
+use lib.ListN.{length}
 use Rattle.rules.specs.declared.MatType.TheVariants.{General}
 use Rattle.rules.specs.Arithmetic.{◌+ᶠ◌, ◌*ᶠ◌}
-use Rattle.rules.specs.Matrices.{entry, product, transformed_by}
-use Rattle.rules.proofs.Arithmetic.{Reached, reached_none, reached_all}
-use Rattle.rules.proofs.Parts.{part-places}
-use Rattle.side_by_side.proofs.SideBySide.{reached_part}
+use Rattle.rules.specs.Matrices.{entry, product}
+use Rattle.rules.proofs.Arithmetic.{Reached}
 use Rattle.split_transform.proofs.split_rows.Given as goal
 
 abbrev pub invariant-loop-r : goal.invariant-loop-r

@@ -1,6 +1,5 @@
 -- `split_transform::transform_split` meets its contract.
 use mathlib.Core.Path.{sym, ◌∙◌}
-use borrow.Author.Rules.{rules}
 use borrow.Author.Tests.{not-true, not-false}
 use Rattle.rules.proofs.Outcome.{refused, done}
 use Rattle.split_transform.proofs.Slices.{split_fitting}

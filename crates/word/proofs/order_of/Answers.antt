@@ -7,7 +7,6 @@ use Rattle.rules.specs.Blocks.{order_up_to, order_of}
 use Rattle.rules.proofs.Blocks.{order_found, order_less}
 use Rattle.rules.proofs.Triangle.{triangle_grows}
 use Rattle.matrix.proofs.Counted.{counted_is}
-use borrow.Author.Rules.{rules}
 use Rattle.word.proofs.order_of.Goals as goal
 
 found_from_above : (size order more : ℕ) → triangle order ≤ size → size < triangle (order + 1) → order_up_to (order + more) size ≡ order
@@ -28,20 +27,17 @@ found size order most small large =
     let all : order + (127 - order) ≡ 127 = omega arith in
     sym (found_from_above size order (127 - order) small large) ∙ ap (λ (n : ℕ). order_up_to n size) all
 
-pub loop-order-init : goal.loop-order-init
-loop-order-init c = (search rules, search rules)
-
 pub returns-then-size-triangle : goal.returns-then-size-triangle
 returns-then-size-triangle c =
-    let next : c.triangle.result ≡ triangle (c.loop-order.order + 1) = c.triangle.ensures ∙ counted_is _ (omega (arith, c.loop-order.invariant.0)) in
-    found _ _ c.loop-order.invariant.0 c.loop-order.invariant.1 (omega (arith, next, c.if-size-triangle.true))
+    let next : c.triangle.result ≡ triangle (c.loop-order.order + 1) = c.triangle.ensures ∙ counted_is _ (omega arith) in
+    found _ _ (omega arith) c.loop-order.invariant (omega (arith, next, c.if-size-triangle.true))
 
 pub loop-order-preserved : goal.loop-order-preserved
 loop-order-preserved c =
-    let next : c.triangle.result ≡ triangle (c.loop-order.order + 1) = c.triangle.ensures ∙ counted_is _ (omega (arith, c.loop-order.invariant.0)) in
-    (search rules, omega (arith, next, c.if-size-triangle.false))
+    let next : c.triangle.result ≡ triangle (c.loop-order.order + 1) = c.triangle.ensures ∙ counted_is _ (omega arith) in
+    omega (arith, next, c.if-size-triangle.false)
 
 pub returns : goal.returns
 unfolding order_of
-returns c = let last : c.loop-order.order ≡ 127 = omega (arith, c.loop-order-test.false, c.loop-order.invariant.0) in
-    sym (order_found 127 _ (omega arith) (rw last at c.loop-order.invariant.1))
+returns c = let last : c.loop-order.order ≡ 127 = omega arith in
+    sym (order_found 127 _ (omega arith) (rw last at c.loop-order.invariant))

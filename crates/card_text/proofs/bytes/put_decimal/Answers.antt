@@ -1,5 +1,4 @@
 -- `card_text::bytes::put_decimal` meets its contract.
-use borrow.Author.Rules.{rules}
 use native.Mathlib.Omega.{arith}
 use Rattle.card_text.proofs.Texts.{decimal_places, decimal_put}
 use Rattle.card_text.proofs.bytes.put_decimal.Goals as goal

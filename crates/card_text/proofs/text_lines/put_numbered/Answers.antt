@@ -1,5 +1,4 @@
 -- `card_text::text_lines::put_numbered` meets its contract.
-use borrow.Author.Rules.{rules}
 use native.Mathlib.Omega.{arith}
 use Rattle.card_text.proofs.Texts.{numbered_put}
 use Rattle.card_text.proofs.text_lines.put_numbered.Goals as goal

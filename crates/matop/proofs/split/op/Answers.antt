@@ -1,5 +1,4 @@
 -- `matop::split::op` meets its contract.
-use borrow.Author.Rules.{rules}
 use Rattle.rules.specs.Matrices.{opped_by}
 use Rattle.matop.specs.Operated.{operated}
 use Rattle.matop.proofs.split.op.Goals as goal

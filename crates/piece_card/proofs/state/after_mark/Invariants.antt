@@ -1,4 +1,4 @@
--- A line starts at or before the place that is read.
+-- The line that is read began before the byte.
 use Rattle.std.proofs.Common.{◌≤◌}
 use Rattle.piece_card.proofs.state.after_mark.Given as goal
 

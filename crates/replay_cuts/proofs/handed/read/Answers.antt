@@ -1,5 +1,5 @@
 -- `replay_cuts::handed::read` is safe and ends.
-use Rattle.std.proofs.Common.{◌∙◌, rules}
+use Rattle.std.proofs.Common.{◌∙◌}
 use Rattle.replay_cuts.proofs.handed.read.Goals as goal
 
 pub shape_of-numbers : goal.shape_of-numbers

@@ -1,5 +1,5 @@
 -- `replay_cuts::held::held` is safe and ends.
-use Rattle.std.proofs.Common.{◌∙◌, rules}
+use Rattle.std.proofs.Common.{◌∙◌}
 use Rattle.replay_cuts.proofs.held.held.Goals as goal
 
 pub shape_of-work : goal.shape_of-work

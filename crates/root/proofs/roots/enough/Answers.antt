@@ -1,6 +1,6 @@
 -- `root::roots::enough` meets its contract: the product by the two parts of q, h of 26 digits and l of 27. Assumes nothing.
 use Prim.Native.Nat.{ℕ, ◌+◌, ◌*◌, ◌/◌, ◌%◌, ◌^◌, ◌≤◌, ◌<◌}
-use native.Mathlib.Nat.{mul-le-mul, mul-add, add-mul, mul_assoc, mul_comm, mul_left_comm, mul-mul-mul_comm, mul_right_comm}
+use native.Mathlib.Nat.{mul-add, add-mul, mul_assoc, mul_comm, mul_left_comm, mul-mul-mul_comm, mul_right_comm}
 use native.Mathlib.Omega.{arith}
 use mathlib.Core.Path.{◌≡◌, refl, sym, ap, ◌∙◌}
 use mathlib.Core.Bool.{Bool, true, false}
@@ -38,33 +38,6 @@ same_test m x n s up down = go (leb m x) refl
     go : (b : Bool) → leb m x ≡ b → b ≡ leb n s
     go true e = sym (le-leb n s (up (leb-true m x e)))
     go false e = sym (lt-leb n s (down (leb-false m x e)))
-
-pub overflow_mul-result : goal.overflow_mul-result
-overflow_mul-result c = omega (arith, (let high_most : (c.args.q / 134217728) * (c.args.q / 134217728) ≤ 67108863 * 67108863 = mul-le-mul ((let h_most : (c.args.q / 134217728) ≤ 67108863 = omega arith in h_most)) ((let h_most : (c.args.q / 134217728) ≤ 67108863 = omega arith in h_most)) in high_most))
-
-pub overflow_mul-result-2 : goal.overflow_mul-result-2
-overflow_mul-result-2 c = omega (arith, (let high_most : (c.args.q / 134217728) * (c.args.q / 134217728) ≤ 67108863 * 67108863 = mul-le-mul ((let h_most : (c.args.q / 134217728) ≤ 67108863 = omega arith in h_most)) ((let h_most : (c.args.q / 134217728) ≤ 67108863 = omega arith in h_most)) in high_most))
-
-pub overflow_mul-result-3 : goal.overflow_mul-result-3
-overflow_mul-result-3 c = omega arith
-
-pub overflow_add-result : goal.overflow_add-result
-overflow_add-result c = omega arith
-
-pub overflow_mul-result-4 : goal.overflow_mul-result-4
-overflow_mul-result-4 c = omega (arith, (let cross_most : (c.args.q / 134217728) * (2 * (c.args.q % 134217728) + 1) ≤ 67108863 * 268435455 = let most : 2 * (c.args.q % 134217728) + 1 ≤ 268435455 = omega arith in mul-le-mul ((let h_most : (c.args.q / 134217728) ≤ 67108863 = omega arith in h_most)) most in cross_most))
-
-pub overflow_add-result-2 : goal.overflow_add-result-2
-overflow_add-result-2 c = omega arith
-
-pub overflow_mul-result-5 : goal.overflow_mul-result-5
-overflow_mul-result-5 c = omega (arith, (let low_most : (c.args.q % 134217728) * ((c.args.q % 134217728) + 1) ≤ 134217727 * 134217728 = let most : (c.args.q % 134217728) + 1 ≤ 134217728 = omega arith in mul-le-mul ((let l_most : (c.args.q % 134217728) ≤ 134217727 = omega arith in l_most)) most in low_most))
-
-pub overflow_add-result-3 : goal.overflow_add-result-3
-overflow_add-result-3 c = omega (arith, (let cross_most : (c.args.q / 134217728) * (2 * (c.args.q % 134217728) + 1) ≤ 67108863 * 268435455 = let most : 2 * (c.args.q % 134217728) + 1 ≤ 268435455 = omega arith in mul-le-mul ((let h_most : (c.args.q / 134217728) ≤ 67108863 = omega arith in h_most)) most in cross_most), (let low_most : (c.args.q % 134217728) * ((c.args.q % 134217728) + 1) ≤ 134217727 * 134217728 = let most : (c.args.q % 134217728) + 1 ≤ 134217728 = omega arith in mul-le-mul ((let l_most : (c.args.q % 134217728) ≤ 134217727 = omega arith in l_most)) most in low_most))
-
-pub overflow_add-result-4 : goal.overflow_add-result-4
-overflow_add-result-4 c = omega (arith, (let high_most : (c.args.q / 134217728) * (c.args.q / 134217728) ≤ 67108863 * 67108863 = mul-le-mul ((let h_most : (c.args.q / 134217728) ≤ 67108863 = omega arith in h_most)) ((let h_most : (c.args.q / 134217728) ≤ 67108863 = omega arith in h_most)) in high_most), (let cross_most : (c.args.q / 134217728) * (2 * (c.args.q % 134217728) + 1) ≤ 67108863 * 268435455 = let most : 2 * (c.args.q % 134217728) + 1 ≤ 268435455 = omega arith in mul-le-mul ((let h_most : (c.args.q / 134217728) ≤ 67108863 = omega arith in h_most)) most in cross_most), (let low_most : (c.args.q % 134217728) * ((c.args.q % 134217728) + 1) ≤ 134217727 * 134217728 = let most : (c.args.q % 134217728) + 1 ≤ 134217728 = omega arith in mul-le-mul ((let l_most : (c.args.q % 134217728) ≤ 134217727 = omega arith in l_most)) most in low_most))
 
 pub returns : goal.returns
 returns c = let cut = 4 * ((c.args.q / 134217728) * (c.args.q / 134217728)) + ((c.args.q / 134217728) * (2 * (c.args.q % 134217728) + 1) + (c.args.q % 134217728) * ((c.args.q % 134217728) + 1) / 134217728) / 33554432 in

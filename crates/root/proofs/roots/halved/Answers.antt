@@ -1,36 +1,15 @@
 -- `root::roots::halved` meets its contract. The loop's invariant: what is looked for is lo or more and hi or less. The measure is what lies between. Assumes nothing.
-use Prim.Native.Nat.{ℕ, ◌+◌, ◌-◌, ◌*◌, ◌/◌, ◌^◌, ◌≤◌, ◌<◌}
+use Prim.Native.Nat.{ℕ, ◌+◌, ◌-◌, ◌*◌, ◌/◌, ◌^◌, ◌≤◌}
 use native.Mathlib.Omega.{arith}
 use mathlib.Core.Path.{◌≡◌, sym, ◌∙◌, subst}
 use borrow.Author.Tests.{leb-true, leb-false}
 use Rattle.rules.proofs.Root.{at_most, above_last}
 use Rattle.root.proofs.roots.halved.Goals as goal
 
-pub loop-lo-init : goal.loop-lo-init
-loop-lo-init c = omega arith
-
-pub overflow_sub-q : goal.overflow_sub-q
-overflow_sub-q c = omega arith
-
-pub overflow_add-q : goal.overflow_add-q
-overflow_add-q c = omega arith
-
-pub enough-requires : goal.enough-requires
-enough-requires c = omega arith
-
-pub loop-lo-smaller-then-enough : goal.loop-lo-smaller-then-enough
-loop-lo-smaller-then-enough c = omega arith
-
 pub loop-lo-preserved-then-enough : goal.loop-lo-preserved-then-enough
 loop-lo-preserved-then-enough c = let q = c.loop-lo.lo + (c.loop-lo.hi - c.loop-lo.lo) / 2 in
     let n = c.args.m * 2 ^ 52 in
     (omega arith, omega arith, omega arith, c.loop-lo.invariant.3, at_most q n (leb-true n (q * (q + 1)) (sym c.enough.ensures ∙ c.if-enough.true)))
-
-pub overflow_add-lo : goal.overflow_add-lo
-overflow_add-lo c = omega arith
-
-pub loop-lo-smaller : goal.loop-lo-smaller
-loop-lo-smaller c = omega arith
 
 pub loop-lo-preserved : goal.loop-lo-preserved
 loop-lo-preserved c = let q = c.loop-lo.lo + (c.loop-lo.hi - c.loop-lo.lo) / 2 in

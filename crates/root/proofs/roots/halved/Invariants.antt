@@ -1,9 +1,5 @@
 -- `root::roots::halved` meets its contract. The loop's invariant: what is looked for is lo or more and hi or less. The measure is what lies between. Assumes nothing.
-use Prim.Native.Nat.{ℕ, ◌+◌, ◌-◌, ◌*◌, ◌/◌, ◌^◌, ◌≤◌, ◌<◌}
-use native.Mathlib.Omega.{arith}
-use mathlib.Core.Path.{◌≡◌, sym, ◌∙◌, subst}
-use borrow.Author.Tests.{leb-true, leb-false}
-use Rattle.rules.proofs.Root.{at_most, above_last}
+use Prim.Native.Nat.{◌+◌, ◌-◌, ◌*◌, ◌^◌, ◌≤◌, ◌<◌}
 use Rattle.root.proofs.roots.halved.Given as goal
 
 abbrev pub invariant-loop-lo : goal.invariant-loop-lo

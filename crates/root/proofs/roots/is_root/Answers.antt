@@ -1,5 +1,4 @@
 -- `root::roots::is_root` meets its contract: a guess that passes both tests has the root's pattern. Assumes nothing.
-use borrow.Author.Rules.{rules}
 use native.Mathlib.Omega.{arith}
 use Prim.Native.Nat.{ℕ, ◌+◌, ◌-◌, ◌*◌, ◌/◌, ◌%◌, ◌^◌, ◌≤◌, ◌<◌}
 use mathlib.Core.Path.{◌≡◌, refl, sym, ap, ◌∙◌, subst}
@@ -9,7 +8,7 @@ use lib.Ieee.{Float, binary64, fits, to_bits, of_bits}
 use lib.Ieee.Bits.{of_bits-to_bits}
 use Rattle.rules.specs.Root.{root_of_units}
 use Rattle.rules.proofs.Root.{at_most, above_last}
-use Rattle.rules.proofs.RootPatterns.{equal_to_itself, root-pattern}
+use Rattle.rules.proofs.RootPatterns.{root-pattern}
 use Rattle.root.specs.Root.{Digits}
 use Rattle.root.proofs.roots.is_root.Goals as goal
 
@@ -26,21 +25,9 @@ is_nearest g m k b q good is_b is-q place digits up down =
     ∙ ap (of_bits binary64) (sym is_b ∙ sym (whole-pattern b k place) ∙ ap (λ (x : ℕ). k * 2 ^ 52 + x) (sym is-q))
     ∙ sym (root-pattern q m k (omega arith) (omega arith) digits.place digits.least (omega (arith, digits.most)) (subst (λ (x : ℕ). x * x < n + x) back (above_last (q - 1) n down), at_most q n up))
 
-pub float_to_bits-b : goal.float_to_bits-b
-float_to_bits-b c = equal_to_itself c.args.g c.if-g.true
-
 pub returns-then-enough : goal.returns-then-enough
 returns-then-enough c = let b = to_bits binary64 c.args.g in
     let q = b % 2 ^ 52 + 2 ^ 52 in
-    λ e. is_nearest c.args.g c.args.m c.args.k b q ((let held : T (fits binary64 c.args.g) = subst T (sym c.well_formed.0.1) tt in held)) refl refl c.if-b-k.true c.requires
+    λ e. is_nearest c.args.g c.args.m c.args.k b q ((let held : T (fits binary64 c.args.g) = subst T (sym c.well_formed.0.1) tt in held)) refl refl c.if-b-k.false c.requires
     (leb-true (c.args.m * 2 ^ 52) (q * (q + 1)) (sym c.enough.ensures ∙ c.if-enough.true))
     (leb-false (c.args.m * 2 ^ 52) ((q - 1) * (q - 1 + 1)) (sym c.enough-then-enough.ensures ∙ not-true c.enough-then-enough.result e))
-
-pub returns-else-enough : goal.returns-else-enough
-returns-else-enough c = λ e. absurd (subst T (sym e) tt)
-
-pub returns-else-b-k : goal.returns-else-b-k
-returns-else-b-k c = λ e. absurd (subst T (sym e) tt)
-
-pub returns-else-g : goal.returns-else-g
-returns-else-g c = λ e. absurd (subst T (sym e) tt)

@@ -5,7 +5,6 @@ use native.Mathlib.Omega.{arith}
 use mathlib.Core.Path.{◌≡◌, refl, sym, ap, ◌∙◌, subst}
 use mathlib.Core.Logic.{⊎_elim}
 use mathlib.Core.Bool.{Bool, true, false, not, cond}
-use borrow.Author.Rules.{rules}
 use borrow.Author.Tests.{ltb-true, ltb-false, le-leb}
 use lib.IntN.{ℤ}
 use lib.Dec.{T, leb, eqb}
@@ -88,8 +87,8 @@ root_of_infinity x e = e ∙ ap (root binary64) (sym e)
 no_less : (x : ℕ) → 0 < 0 * x → ⊥
 no_less x h = omega arith
 
-root_below : (x : Float) → Ieee.lt x +0 ≡ true → Ieee.div binary64 +0 +0 ≡ root binary64 x
-unfolding Ieee.lt Ieee.div of_bits root
+root_below : (x : Float) → Ieee.lt x +0 ≡ true → nan ≡ root binary64 x
+unfolding Ieee.lt of_bits root
 root_below nan e = never e
 root_below (inf true) e = refl
 root_below (inf false) e = never e
@@ -129,21 +128,22 @@ pub float_to_bits-b : goal.float_to_bits-b
 float_to_bits-b c = above_no_nan c.args.x c.if-x.true
 
 pub root_of_low-requires : goal.root_of_low-requires
-root_of_low-requires c = (pattern_pos c.args.x ((let held : T (fits binary64 c.args.x) = subst T (sym c.well_formed.0.1) tt in held)) c.if-x.true, c.if-b-lt4503599627370496.true)
+root_of_low-requires c = (pattern_pos c.args.x ((let held : T (fits binary64 c.args.x) = subst T (sym c.well_formed.0.1) tt in held)) c.if-x.true, c.if-b-lt-EXPONENT.true)
 
 pub root_of_normal-requires : goal.root_of_normal-requires
-root_of_normal-requires c = (c.if-b-lt4503599627370496.false, c.if-b-lt9218868437227405312.true)
+root_of_normal-requires c = (c.if-b-lt-EXPONENT.false, c.if-b-lt-INFINITE.true)
 
-pub returns-then-b-lt4503599627370496 : goal.returns-then-b-lt4503599627370496
-returns-then-b-lt4503599627370496 c = c.root_of_low.ensures ∙ ap (root binary64) (of_bits-to_bits binary64 c.args.x ((let held : T (fits binary64 c.args.x) = subst T (sym c.well_formed.0.1) tt in held)))
+pub returns-then-b-lt-EXPONENT : goal.returns-then-b-lt-EXPONENT
+returns-then-b-lt-EXPONENT c = c.root_of_low.ensures ∙ ap (root binary64) (of_bits-to_bits binary64 c.args.x ((let held : T (fits binary64 c.args.x) = subst T (sym c.well_formed.0.1) tt in held)))
 
-pub returns-then-b-lt9218868437227405312 : goal.returns-then-b-lt9218868437227405312
-returns-then-b-lt9218868437227405312 c = c.root_of_normal.ensures ∙ ap (root binary64) (of_bits-to_bits binary64 c.args.x ((let held : T (fits binary64 c.args.x) = subst T (sym c.well_formed.0.1) tt in held)))
+pub returns-then-b-lt-INFINITE : goal.returns-then-b-lt-INFINITE
+returns-then-b-lt-INFINITE c = c.root_of_normal.ensures ∙ ap (root binary64) (of_bits-to_bits binary64 c.args.x ((let held : T (fits binary64 c.args.x) = subst T (sym c.well_formed.0.1) tt in held)))
 
-pub returns-else-b-lt9218868437227405312 : goal.returns-else-b-lt9218868437227405312
-returns-else-b-lt9218868437227405312 c = root_of_infinity c.args.x (infinite c.args.x ((let held : T (fits binary64 c.args.x) = subst T (sym c.well_formed.0.1) tt in held)) c.if-x.true c.if-b-lt9218868437227405312.false)
+pub returns-else-b-lt-INFINITE : goal.returns-else-b-lt-INFINITE
+returns-else-b-lt-INFINITE c = root_of_infinity c.args.x (infinite c.args.x ((let held : T (fits binary64 c.args.x) = subst T (sym c.well_formed.0.1) tt in held)) c.if-x.true c.if-b-lt-INFINITE.false)
 
 pub returns-then-x-2 : goal.returns-then-x-2
+unfolding of_bits
 returns-then-x-2 c = root_below c.args.x c.if-x-2.true
 
 pub returns-else-x-2 : goal.returns-else-x-2

@@ -1,5 +1,4 @@
 -- `root::roots::root_by_halving` meets its contract: the digits found are the nearest, and their pattern is the root's. Assumes nothing.
-use borrow.Author.Rules.{rules}
 use native.Mathlib.Omega.{arith}
 use Prim.Native.Nat.{◌+◌, ◌*◌, ◌^◌}
 use mathlib.Core.Path.{sym}

@@ -18,26 +18,8 @@ lower t p h = mul_assoc t 2 (2 ^ (p - 1)) ∙ ap (λ (x : ℕ). t * x) (sym (pow
 pub loop-t-init : goal.loop-t-init
 loop-t-init c = (c.requires.0, omega arith, omega arith, refl)
 
-pub overflow_mul-t : goal.overflow_mul-t
-overflow_mul-t c = omega arith
-
-pub overflow_sub-places : goal.overflow_sub-places
-overflow_sub-places c = omega (arith, (let left : 1022 ≤ c.loop-t.places = places_left c.args.b c.loop-t.t c.loop-t.places c.requires.0 c.loop-t.invariant.1 c.loop-t.invariant.3 in left))
-
-pub loop-t-smaller : goal.loop-t-smaller
-loop-t-smaller c = omega (arith, (let left : 1022 ≤ c.loop-t.places = places_left c.args.b c.loop-t.t c.loop-t.places c.requires.0 c.loop-t.invariant.1 c.loop-t.invariant.3 in left))
-
 pub loop-t-preserved : goal.loop-t-preserved
 loop-t-preserved c = (omega arith, omega arith, omega arith, lower c.loop-t.t c.loop-t.places (omega (arith, (let left : 1022 ≤ c.loop-t.places = places_left c.args.b c.loop-t.t c.loop-t.places c.requires.0 c.loop-t.invariant.1 c.loop-t.invariant.3 in left))) ∙ c.loop-t.invariant.3)
-
-pub overflow_add-places : goal.overflow_add-places
-overflow_add-places c = omega arith
-
-pub overflow_mul-t-2 : goal.overflow_mul-t-2
-overflow_mul-t-2 c = omega (arith, (let moved_up : (2 ^ 52 ≤ c.loop-t.t * (1 + c.loop-t.places % 2)) × (c.loop-t.t * (1 + c.loop-t.places % 2) + 1 < 2 ^ 54) = moved c.loop-t.t c.loop-t.places c.loop-t-test.false c.loop-t.invariant.1 in moved_up))
-
-pub overflow_sub-places-2 : goal.overflow_sub-places-2
-overflow_sub-places-2 c = omega (arith, (let left : 1022 ≤ c.loop-t.places = places_left c.args.b c.loop-t.t c.loop-t.places c.requires.0 c.loop-t.invariant.1 c.loop-t.invariant.3 in left))
 
 pub root_by_halving-requires : goal.root_by_halving-requires
 root_by_halving-requires c = record { least = ((let moved_up : (2 ^ 52 ≤ c.loop-t.t * (1 + c.loop-t.places % 2)) × (c.loop-t.t * (1 + c.loop-t.places % 2) + 1 < 2 ^ 54) = moved c.loop-t.t c.loop-t.places c.loop-t-test.false c.loop-t.invariant.1 in moved_up)).0; most = ((let moved_up : (2 ^ 52 ≤ c.loop-t.t * (1 + c.loop-t.places % 2)) × (c.loop-t.t * (1 + c.loop-t.places % 2) + 1 < 2 ^ 54) = moved c.loop-t.t c.loop-t.places c.loop-t-test.false c.loop-t.invariant.1 in moved_up)).1; place = omega arith }

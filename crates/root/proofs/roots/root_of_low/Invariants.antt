@@ -1,11 +1,6 @@
 -- `root::roots::root_of_low` meets its contract. The loop's invariant: the number is as it was, its digits moved up. The measure is how far they can still go. Assumes nothing.
-use native.Mathlib.Omega.{arith}
-use Prim.Native.Nat.{ℕ, suc, ◌+◌, ◌-◌, ◌*◌, ◌%◌, ◌^◌, ◌≤◌, ◌<◌}
-use mathlib.Core.Path.{◌≡◌, refl, sym, ap, ◌∙◌}
-use native.Mathlib.Nat.{mul_assoc, pow-succ'}
-use lib.Ieee.{binary64}
-use Rattle.rules.specs.Root.{root_of_units}
-use Rattle.rules.proofs.RootPatterns.{root_of_low, even_places, moved, places_left}
+use Prim.Native.Nat.{◌*◌, ◌^◌, ◌≤◌, ◌<◌}
+use mathlib.Core.Path.{◌≡◌}
 use Rattle.root.proofs.roots.root_of_low.Given as goal
 
 abbrev pub invariant-loop-t : goal.invariant-loop-t

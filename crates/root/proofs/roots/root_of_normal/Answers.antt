@@ -1,16 +1,12 @@
 -- `root::roots::root_of_normal` meets its contract: by the digits of the pattern, moved up by one place where that leaves an even number of places. Assumes nothing.
-use borrow.Author.Rules.{rules}
 use native.Mathlib.Omega.{arith}
-use Prim.Native.Nat.{ℕ, ◌+◌, ◌-◌, ◌*◌, ◌/◌, ◌%◌, ◌^◌}
+use Prim.Native.Nat.{◌+◌, ◌-◌, ◌*◌, ◌/◌, ◌%◌, ◌^◌}
 use mathlib.Core.Path.{◌≡◌, sym, ap, ◌∙◌}
 use lib.Ieee.{binary64, of_bits}
 use Rattle.rules.specs.Root.{root_of_units, root}
 use Rattle.rules.proofs.RootPatterns.{root_of_normal, even_places, moved}
 use Rattle.root.specs.Root.{Digits}
 use Rattle.root.proofs.roots.root_of_normal.Goals as goal
-
-pub overflow_mul-m : goal.overflow_mul-m
-overflow_mul-m c = omega (arith, ((let moved_up : Digits ((2 ^ 52 + c.args.b % 2 ^ 52) * (1 + (c.args.b / 2 ^ 52 + 1073) % 2)) ((c.args.b / 2 ^ 52 + 1073) / 2 - 26) = let m = moved ((2 ^ 52 + c.args.b % 2 ^ 52)) ((c.args.b / 2 ^ 52 + 1073)) (omega arith) (omega arith) in record { least = m.0; most = m.1; place = omega arith } in moved_up)).most)
 
 pub is_root-requires : goal.is_root-requires
 is_root-requires c = (let moved_up : Digits ((2 ^ 52 + c.args.b % 2 ^ 52) * (1 + (c.args.b / 2 ^ 52 + 1073) % 2)) ((c.args.b / 2 ^ 52 + 1073) / 2 - 26) = let m = moved ((2 ^ 52 + c.args.b % 2 ^ 52)) ((c.args.b / 2 ^ 52 + 1073)) (omega arith) (omega arith) in record { least = m.0; most = m.1; place = omega arith } in moved_up)

@@ -1,5 +1,4 @@
 -- `rules::SolverParam::new` meets its contract: the literals are the fractions, each rounded once.
-use borrow.Author.Rules.{rules}
 use lib.Ieee.{of_bits}
 use Rattle.rules.specs.Parameters.{defaults}
 use Rattle.rules.proofs.SolverParam.new.Goals as goal

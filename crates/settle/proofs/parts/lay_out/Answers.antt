@@ -1,5 +1,4 @@
 -- `settle::parts::lay_out` meets its contract.
-use borrow.Author.Rules.{rules}
 use Rattle.settle.proofs.Parted.{laid_first, laid_more}
 use Rattle.settle.proofs.parts.lay_out.Goals as goal
 

@@ -1,5 +1,4 @@
 -- `solver::entry::solve` meets its contract: it is the run with an empty progress record.
-use borrow.Author.Rules.{rules}
 use Rattle.rules.proofs.LoggedRuns.{logged_outcome_is_the_plain}
 use Rattle.solver.proofs.entry.solve.Goals as goal
 

@@ -1,9 +1,0 @@
--- `matrix::width` meets its contract.
-use borrow.Author.Rules.{rules}
-use Rattle.matrix.proofs.width.Goals as goal
-
-pub returns-then-transpose : goal.returns-then-transpose
-returns-then-transpose c = rw c.if-transpose.true c.n_row.ensures
-
-pub returns-else-transpose : goal.returns-else-transpose
-returns-else-transpose c = rw c.if-transpose.false c.n_col.ensures

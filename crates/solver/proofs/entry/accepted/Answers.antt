@@ -1,5 +1,5 @@
 -- `solver::entry::accepted` meets its contract: the vectors start as +0, and of cone work the required part is lent.
-use Prim.Native.Nat.{ℕ, ◌+◌, ◌*◌}
+use Prim.Native.Nat.{◌+◌, ◌*◌}
 use mathlib.Core.Path.{refl, sym, ap}
 use lib.ListN.{take}
 use Rattle.rules.specs.Limits.{limit}

@@ -29,30 +29,37 @@ pub fn read<R: Read>(input: &mut R, buffer: &mut [u8], length: usize) -> bool {
 
 // Whether nothing more can be read.
 pub fn at_end<R: Read>(input: &mut R) -> bool {
-    input.read_exact(&mut [0]).is_err()
+    !read(input, &mut [0], 1)
 }
 
 // The next word of a list: eight bytes, the most significant first.
 pub fn read_word<R: Read>(input: &mut R) -> io::Result<u64> {
     let mut bytes = [0; 8];
-    input.read_exact(&mut bytes)?;
-    Ok(u64::from_be_bytes(bytes))
+    if read(input, &mut bytes, 8) {
+        Ok(u64::from_be_bytes(bytes))
+    } else {
+        Err(io::ErrorKind::UnexpectedEof.into())
+    }
 }
 
 // The next record of a list: its first word, and then as many words as its second one says, put into the room lent. None where it is cut short or there is
 // no room for it. The two words are read at once: each read is a call of the system's.
 fn read_record<'a, R: Read>(input: &mut R, room: &'a mut [u8]) -> Option<(u64, &'a [u8])> {
     let mut head = [0; 16];
-    input.read_exact(&mut head).ok()?;
+    if !read(input, &mut head, 16) {
+        return None;
+    }
     let both = u128::from_be_bytes(head);
     let tag = (both >> 64) as u64;
     let words = (both % (1 << 64)) as usize;
     if words > room.len() / 8 {
         return None;
     }
-    let record = &mut room[..words * 8];
-    input.read_exact(record).ok()?;
-    Some((tag, record))
+    let length = words * 8;
+    if !read(input, room, length) {
+        return None;
+    }
+    Some((tag, &room[..length]))
 }
 
 // Replays so many records, or up to one that can't be: whether all were, and nothing follows.

@@ -1,0 +1,11 @@
+pub mod ShapeParts
+pub mod PackedRows
+pub mod Precond
+pub mod Finite
+pub mod Columns
+pub mod Rows
+pub mod LaterReasons
+pub mod ByEdition
+pub mod Starting
+pub mod OwnPart
+pub mod Settled

@@ -6,6 +6,7 @@ use mathlib.Core.List.{List}
 use lib.Dec.{leb, ltb, eqb}
 use Rattle.rules.specs.declared.SolverParam.{SolverParam}
 use Rattle.rules.specs.Blocks.{blocks_of}
+use Rattle.rules.specs.Matrices.{triangle}
 use Rattle.rules.specs.Demands.{all_pairs_twice}
 use Rattle.rules.specs.Problem.{as_read}
 use Rattle.rules.specs.Run.{allowance}
@@ -13,7 +14,7 @@ use Rattle.piece_rules.specs.declared.RunLengths.{RunLengths}
 use Rattle.piece_rules.specs.declared.RunRecord.{RunRecord}
 use Rattle.piece_rules.specs.Pieces.{same_bits, same_lengths, same_param, stale_run}
 use Rattle.later_check.specs.Parts.{listed}
-use native.Mathlib.Nat.{mul-zero, zero-mul, le-max_left, le-max_right, max-le}
+use native.Mathlib.Nat.{mul-le-mul_left, mul-zero, zero-mul, le-max_left, le-max_right, max-le}
 use native.Mathlib.Omega.{arith}
 use borrow.Author.Tests.{ltb-true, ltb-false, leb-true, leb-false, le-leb, lt-leb, lt-ltb, le-ltb}
 
@@ -84,3 +85,11 @@ rows_left k written dropped h = go (ltb (k - written) dropped) refl
     go false e =
         let under : dropped ≤ k - written = ltb-false (k - written) dropped e in
         sym (le-ltb k (written + dropped) (omega arith))
+
+pub pairs_few : (d : ℕ) → triangle d ≤ 8191 → d * (d - 1) ≤ 16383
+pairs_few d h =
+    let fewer : d - 1 ≤ d + 1 = omega arith in
+    omega (arith, mul-le-mul_left d fewer)
+
+pub rows_more : (k written dropped : ℕ) → k < written → true ≡ ltb k (written + dropped)
+rows_more k written dropped h = sym (lt-ltb k (written + dropped) (omega arith))

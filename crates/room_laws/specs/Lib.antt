@@ -1,1 +1,3 @@
+pub mod Counted
 pub mod Operators
+pub mod Tau

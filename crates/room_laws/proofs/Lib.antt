@@ -27,3 +27,4 @@ pub mod WholeRun
 pub mod Stepping
 pub mod TakeUp
 pub mod StepTests
+pub mod CardFaults

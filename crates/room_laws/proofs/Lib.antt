@@ -27,4 +27,3 @@ pub mod WholeRun
 pub mod Stepping
 pub mod TakeUp
 pub mod StepTests
-pub mod CardFaults

@@ -36,7 +36,7 @@ pub fn at_end<R: Read>(input: &mut R) -> bool {
 pub fn read_word<R: Read>(input: &mut R) -> io::Result<u64> {
     let mut bytes = [0; 8];
     if read(input, &mut bytes, 8) {
-        Ok(u64::from_be_bytes(bytes))
+        Ok(patterns::word_at(&bytes, 0))
     } else {
         Err(io::ErrorKind::UnexpectedEof.into())
     }
@@ -49,9 +49,8 @@ fn read_record<'a, R: Read>(input: &mut R, room: &'a mut [u8]) -> Option<(u64, &
     if !read(input, &mut head, 16) {
         return None;
     }
-    let both = u128::from_be_bytes(head);
-    let tag = (both >> 64) as u64;
-    let words = (both % (1 << 64)) as usize;
+    let tag = patterns::word_at(&head, 0);
+    let words = patterns::word_at(&head, 8) as usize;
     if words > room.len() / 8 {
         return None;
     }

@@ -46,7 +46,7 @@ pub fn groups(record: &[u8]) -> bool {
     }
     let words: [u16; MOST_WORDS] = room::cone_words(record, 2, blocks);
     let list = &words[..blocks];
-    routines::agrees(
+    routines::agrees_with(
         |_, _, xs| grouping::product_group(list, xs),
         record,
         blocks + 2,

@@ -54,8 +54,8 @@ impl Operation {
             Operation::SecondOrder => projects(Cone::SOC(record::size(record, 1)), record),
             Operation::Rotated => projects(Cone::RotSOC(record::size(record, 1)), record),
             Operation::Semidefinite => semidefinite::agrees(record),
-            Operation::Product => lists::projects(record),
-            Operation::Grouping => lists::groups(record),
+            Operation::Product => lists::agrees(false, record),
+            Operation::Grouping => lists::agrees(true, record),
         }
     }
 }

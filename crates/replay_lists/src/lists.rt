@@ -13,6 +13,15 @@ fn words_of(answer: Product) -> (u64, u64) {
     }
 }
 
+// Replays a record: whether a list of blocks is grouped, or else projected, as it says.
+pub fn agrees(grouped: bool, record: &[u8]) -> bool {
+    if grouped {
+        groups(record)
+    } else {
+        projects(record)
+    }
+}
+
 // Whether a list of blocks is projected as a record says.
 pub fn projects(record: &[u8]) -> bool {
     let Some(dual) = record::flag(record, 0) else {

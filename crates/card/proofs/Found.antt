@@ -46,11 +46,11 @@ pub record Found (bytes : List ℕ) (n m : ℕ) : Type 0 where
   pub none_left : eqb (length (drop (bit_count n m (bits_of_bytes bytes)) (bits_of_bytes bytes))) (length (drop (bit_count n m (bits_of_bytes bytes)) (bits_of_bytes bytes)) % 8) ≡ true
   pub is : read_card bytes ≡ read (card_at n m (bits_of_bytes bytes))
 
-rest_opened : (n m : ℕ) (bits : List ℕ) → rest_at n m bits ≡ cond (leb (bit_count n m bits) (length bits)) (closed (card_at n m bits) (drop (bit_count n m bits) bits)) (fault Short)
+pub rest_opened : (n m : ℕ) (bits : List ℕ) → rest_at n m bits ≡ cond (leb (bit_count n m bits) (length bits)) (closed (card_at n m bits) (drop (bit_count n m bits) bits)) (fault Short)
 unfolding rest_at
 rest_opened n m bits = refl
 
-closed_opened : (k : Card) (bits : List ℕ) → closed k bits ≡ cond (all_zero (take (length bits % 8) bits)) (cond (eqb (length bits) (length bits % 8)) (read k) (fault LeftOver)) (fault Padding)
+pub closed_opened : (k : Card) (bits : List ℕ) → closed k bits ≡ cond (all_zero (take (length bits % 8) bits)) (cond (eqb (length bits) (length bits % 8)) (read k) (fault LeftOver)) (fault Padding)
 unfolding closed
 closed_opened k bits = refl
 

@@ -6,3 +6,4 @@ pub mod Rest
 pub mod Front
 pub mod Found
 pub mod Outcome
+pub mod NeverSmall

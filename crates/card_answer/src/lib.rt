@@ -7,7 +7,7 @@ ghost use Rattle.card_answer.specs.Answer.{CardOutcome, CardLogOutcome, RunOutco
 
 use card::{CardHead, Fault, MOST_NUMBERS, MOST_WORDS};
 pub use card_problem::Told;
-use card_problem::numbers_from;
+use card_problem::{LONG, numbers_from};
 use rules::{Answer, Logged};
 
 // Enough cone work for any block of a card.
@@ -34,7 +34,7 @@ fn solve_head(
     let n = head.cols.0;
     let stored = card::stored(head.storage, head.rows, head.cols);
     let c = numbers_from::<32>(numbers, 3);
-    let a = numbers_from::<1024>(numbers, 3 + n);
+    let a = numbers_from::<LONG>(numbers, 3 + n);
     let b = numbers_from::<32>(numbers, 3 + n + stored);
     let par = card_problem::parameters(numbers, head.max_iter, head.sweep_limit);
     let mut cone_work = [0.0; CONE_WORK];

@@ -8,7 +8,7 @@ ghost use Rattle.card_pieces.specs.CardPieces.{first_of, later_of, piece_by, Pie
 
 use card::{CardHead, Fault, MOST_NUMBERS, MOST_WORDS};
 pub use card_problem::Told;
-use card_problem::numbers_from;
+use card_problem::{LONG, numbers_from};
 use piece_rules::{PieceAnswer, RunRecord};
 use rules::{Cols, Rows, SolverParam, Storage};
 
@@ -68,7 +68,7 @@ fn piece_of_head(
     let n = head.cols.0;
     let stored = card::stored(head.storage, head.rows, head.cols);
     let c = numbers_from::<32>(numbers, 3);
-    let a = numbers_from::<1024>(numbers, 3 + n);
+    let a = numbers_from::<LONG>(numbers, 3 + n);
     let b = numbers_from::<32>(numbers, 3 + n + stored);
     piece_of(
         run,

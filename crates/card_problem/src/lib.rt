@@ -7,6 +7,9 @@ ghost use Rattle.card_problem.specs.Problem.{number_at, numbers_at, parameters_o
 pub use card::storage_of;
 use rules::{Cols, Rows, SolverParam};
 
+// The most numbers that A has.
+pub const LONG: usize = 1024;
+
 // What is told of a card without a fault: m and n, and what its run answers.
 #[derive(Clone, Copy)]
 pub struct Told<A> {

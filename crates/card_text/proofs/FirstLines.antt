@@ -14,7 +14,7 @@ use Rattle.card.specs.declared.Fault.{Fault}
 use Rattle.card_answer.specs.Answer.{work_places, work_after, logged_told_of}
 use Rattle.card_problem.specs.declared.Told.{Told}
 use Rattle.card_answer.proofs.Outcome.{plain_told, plain_told_lem}
-use Rattle.card_text.specs.Text.{Ended, number_lines, AnswerText, ToldText, CardText, LoggedLine}
+use Rattle.card_text.specs.Text.{Ended, number_lines, AnswerText, ToldText, CardText, by_number, LoggedLine}
 use Rattle.card_text.proofs.Coincide.{same_numbered, same_first}
 
 pub record StartsWith (line text : List ℕ) : Type 0 where
@@ -48,11 +48,11 @@ answered (Unbounded a) k q x y text line d e = ended _ k q x y text line d e
 answered (Infeasible a) k q x y text line d e = ended _ k q x y text line d e
 answered (ConeFailure b) k q x y text line d e = ended _ k q x y text line d e
 
-told : (t : Result (Told Logged) Fault) (work : List Float) (text line : List ℕ) → ToldText (plain_told t) work text → LoggedLine t line → StartsWith line text
+told : (t : Result (Told Logged) Fault) (work : List Float) (text line : List ℕ) → ToldText (plain_told t) work text → LoggedLine (by_number t) line → StartsWith line text
 told (Err f) work text line d e = whole line text (same_numbered _ (fault_number f) text line d e)
 told (Ok t) work text line d e =
     answered t.answer.answer.ending t.answer.answer.steps t.answer.answer.rotations _ _ text line d e
 
-pub the_first_line_is_the_same : (bytes : List ℕ) (period : ℕ) (log : List Float) (text line : List ℕ) → CardText (read_card bytes) text → LoggedLine (logged_told_of (read_card bytes) period (replicate work_places +0) log) line → StartsWith line text
+pub the_first_line_is_the_same : (bytes : List ℕ) (period : ℕ) (log : List Float) (text line : List ℕ) → CardText (read_card bytes) text → LoggedLine (by_number (logged_told_of (read_card bytes) period (replicate work_places +0) log)) line → StartsWith line text
 the_first_line_is_the_same bytes period log text line d e =
     told (logged_told_of (read_card bytes) period (replicate work_places +0) log) (work_after (read_card bytes) (replicate work_places +0)) text line (rw (plain_told_lem period (replicate work_places +0) log (read_card bytes)) d) e

@@ -70,7 +70,7 @@ text_written bytes before told work' count after h g o t =
 
 -- ---- the first line alone
 
-pub line_written : (told : Result (Told Logged) Fault) (before : List ℕ) (count : ℕ) (after : List ℕ) → text_room ≤ length before → length after ≡ length before → count ≤ text_room → Says (LoggedLine told) before count after
+pub line_written : (told : Result (Told Logged) ℕ) (before : List ℕ) (count : ℕ) (after : List ℕ) → text_room ≤ length before → length after ≡ length before → count ≤ text_room → Says (LoggedLine told) before count after
     → record { prefix_len : IsPrefixLen count after; first_line_outcome : FirstLineOutcome told before count after }
 line_written told before count after h kept few t =
     record { prefix_len = counts count after few (omega arith); first_line_outcome = record { inside = omega arith; too_short = λ l. absurd (omega arith); written = λ _. t } }

@@ -122,11 +122,16 @@ pub record TextOutcome (bytes before : List ℕ) (count : ℕ) (after : List ℕ
 
 -- ---- the first line alone, of a card that was solved with a progress record: that of an answer without x and y
 
-abbrev pub LoggedLine : Result (Told Logged) Fault → List ℕ → Type 0
-LoggedLine (Err f) = Numbered card (fault_number f)
+-- a fault is told by its number
+abbrev pub by_number : Result (Told Logged) Fault → Result (Told Logged) ℕ
+by_number (Err f) = Err (fault_number f)
+by_number (Ok told) = Ok told
+
+abbrev pub LoggedLine : Result (Told Logged) ℕ → List ℕ → Type 0
+LoggedLine (Err f) = Numbered card f
 LoggedLine (Ok told) = AnswerText told.answer.answer.ending told.answer.answer.steps told.answer.answer.rotations [] []
 
-pub record FirstLineOutcome (told : Result (Told Logged) Fault) (before : List ℕ) (count : ℕ) (after : List ℕ) : Type 0 where
+pub record FirstLineOutcome (told : Result (Told Logged) ℕ) (before : List ℕ) (count : ℕ) (after : List ℕ) : Type 0 where
   pub inside : count ≤ length after
   pub too_short : length before < text_room → (count ≡ 0) × (after ≡ before)
   pub written : text_room ≤ length before → Says (LoggedLine told) before count after

@@ -6,7 +6,6 @@ mod text_lines;
 
 ghost use Rattle.std.specs.Prelude.{◌≤◌, length};
 ghost use Rattle.io.specs.Counts.{IsPrefixLen};
-ghost use Rattle.card.specs.Card.{fault_number};
 ghost use Rattle.card_text.specs.Text.{Says, Numbered, card as card_word, AnswerText, ToldText, TextOutcome, FirstLineOutcome};
 ghost use Rattle.card_text.specs.Growing.{columns_of, rows_of};
 
@@ -33,12 +32,12 @@ fn put_answer(text: &mut [u8], answer: Answer, x: &[f64], y: &[f64]) -> usize
 }
 
 // Puts the number of a card's fault.
-fn put_fault(text: &mut [u8], fault: Fault) -> usize
+fn put_fault(text: &mut [u8], number: u8) -> usize
     requires { 1200 ≤ length text.old }
     ensures upper_bound { result ≤ 1200 }
-    ensures says { Says (Numbered card_word (fault_number fault)) text.old result text.new }
+    ensures says { Says (Numbered card_word number) text.old result text.new }
 {
-    put_numbered(text, b"Card ", u64::from(fault.number()))
+    put_numbered(text, b"Card ", u64::from(number))
 }
 
 // Puts what was told of a card, of which the solution stands in work.
@@ -55,7 +54,7 @@ fn put_told(text: &mut [u8], told: Result<Told<Answer>, Fault>, work: &[f64]) ->
             let y = solution::solution_y(work, told.rows, told.cols);
             put_answer(text, told.answer, x, y)
         }
-        Err(fault) => put_fault(text, fault),
+        Err(fault) => put_fault(text, fault.number()),
     }
 }
 
@@ -74,8 +73,8 @@ pub fn answer_text(card: &[u8], text: &mut [u8]) -> usize
     put_told(text, told, &work)
 }
 
-// Puts the first line of that alone, for a card that was solved with a progress record.
-pub fn first_line(told: Result<Told<Logged>, Fault>, text: &mut [u8]) -> usize
+// Puts the first line of that alone, for a card that was solved with a progress record. A fault is its number.
+pub fn first_line(told: Result<Told<Logged>, u8>, text: &mut [u8]) -> usize
     ensures prefix_len { IsPrefixLen result text.new }
     ensures first_line_outcome { FirstLineOutcome told text.old result text.new }
 {
@@ -85,6 +84,6 @@ pub fn first_line(told: Result<Told<Logged>, Fault>, text: &mut [u8]) -> usize
     let none = [0.0; 0];
     match told {
         Ok(told) => put_answer(text, told.answer.answer, &none, &none),
-        Err(fault) => put_fault(text, fault),
+        Err(number) => put_fault(text, number),
     }
 }

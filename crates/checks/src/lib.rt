@@ -106,7 +106,7 @@ fn check_parts(
         return Err(Ending::InvalidOp);
     }
     let mut plain = [0u16; MOST_WORDS];
-    let count = groups::flatten(words, &mut plain).unwrap_or(0);
+    let count = groups::count_of(groups::flatten(words, &mut plain));
     check_plain(m, n, c, a1, a2, b, &plain[..count], work, cone_work)
 }
 

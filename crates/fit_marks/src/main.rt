@@ -9,7 +9,6 @@
 #![tactic(auto)]
 
 use rules::{Cols, Ending, Rows, SolverParam, Storage};
-use std::io;
 
 const N: usize = 3;
 
@@ -50,17 +49,20 @@ fn thousandths(x: f64) -> u64 {
     whole
 }
 
-fn write_solution<P: Print>(out: &P, x: &[f64]) -> io::Result<()> {
+fn write_solution<P: Print>(out: &P, x: &[f64]) {
     let [offset, drift, miss] = x else {
-        return Ok(());
+        return;
     };
-    let offset = thousandths(*offset);
-    let drift = thousandths(*drift);
-    let miss = thousandths(*miss);
-    println!(out; "offset {offset} ms, drift {drift} ms a day, largest miss {miss} ms")
+    lines::write(out, b"offset ");
+    lines::write_decimal(out, thousandths(*offset));
+    lines::write(out, b" ms, drift ");
+    lines::write_decimal(out, thousandths(*drift));
+    lines::write(out, b" ms a day, largest miss ");
+    lines::write_decimal(out, thousandths(*miss));
+    lines::write(out, b" ms\n");
 }
 
-fn run<P: Print>(out: &P) -> io::Result<()> {
+fn run<P: Print>(out: &P) {
     let c = [0.0, 0.0, 1.0];
     // the columns of offset, drift and e; after 0, 14, 31 and 49 days
     let a = [
@@ -86,12 +88,13 @@ fn run<P: Print>(out: &P) -> io::Result<()> {
         &mut work,
         &mut cone_work,
     );
-    let name = name_of(answer.ending);
-    println!(out; "{name} after {} steps", answer.steps)?;
-    write_solution(out, solution::solution_x(&work, Cols(N)))
+    lines::write(out, name_of(answer.ending).as_bytes());
+    lines::write(out, b" after ");
+    lines::write_decimal(out, answer.steps);
+    lines::write(out, b" steps\n");
+    write_solution(out, solution::solution_x(&work, Cols(N)));
 }
 
-// A write that fails ends the output: to tell of it on standard error takes one more of C's functions, which nothing proves.
 fn main(rt: HostRuntime) {
-    let _ = run(&rt);
+    run(&rt);
 }

@@ -10,8 +10,7 @@ use Rattle.rules.specs.Limits.{most_deep}
 use Rattle.rules.specs.Groups.{plain_at, plain_words}
 use Rattle.rules.proofs.Growing.{grown_front}
 use Rattle.std.specs.Prelude.{Option, Some, None}
-use Rattle.std.specs.Option.{unwrap_or}
-use Rattle.groups.specs.Flatten.{Put, FlattenOutcome}
+use Rattle.groups.specs.Flatten.{Put, FlattenOutcome, count_of}
 
 -- Any two outcomes that the contract allows are the same: the count, and each place of the buffer.
 pub flatten_outcomes_coincide : {words before : List ℕ} {r r' : Option ℕ} {after after' : List ℕ} → FlattenOutcome words before r after → FlattenOutcome words before r' after' → (r ≡ r') × (after ≡ after')
@@ -30,9 +29,9 @@ module _ (words before : List ℕ) (long : length words ≤ length before) where
       let count : r ≡ length (plain_at most_deep words) = omega (arith, p.ends) in
       record { answered = rw (holds, count); left = rw (holds, ← count) (grown_front r before (plain_at most_deep words) after p.grown) }
 
-  module _ (answer : Option ℕ) (after : List ℕ) (o : FlattenOutcome words before answer after) (count : ℕ) (so : count ≡ unwrap_or answer 0) where
+  module _ (answer : Option ℕ) (after : List ℕ) (o : FlattenOutcome words before answer after) (count : ℕ) (so : count ≡ count_of answer) where
     count_is : count ≡ length (plain_words words)
-    count_is = so ∙ ap (λ (a : Option ℕ). unwrap_or a 0) (rw (le-leb (length words) (length before) long) at o.answered)
+    count_is = so ∙ ap count_of (rw (le-leb (length words) (length before) long) at o.answered)
 
     left_is : after ≡ plain_words words ++ drop (length (plain_words words)) before
     left_is = rw (le-leb (length words) (length before) long) at o.left

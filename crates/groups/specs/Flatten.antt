@@ -16,3 +16,7 @@ holds_all words plain = leb (length words) (length plain)
 pub record FlattenOutcome (words before : List ℕ) (answer : Option ℕ) (after : List ℕ) : Type 0 where
   pub answered : answer ≡ cond (holds_all words before) (Some (length (plain_words words))) None
   pub left : after ≡ cond (holds_all words before) (plain_words words ++ drop (length (plain_words words)) before) before
+
+abbrev pub count_of : Option ℕ → ℕ
+count_of (Some count) = count
+count_of None = 0

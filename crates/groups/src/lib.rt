@@ -3,7 +3,7 @@
 
 ghost use Rattle.std.specs.Prelude.{◌+◌, ◌-◌, ◌≤◌, ◌≡◌, true, length};
 ghost use Rattle.rules.specs.Groups.{opens, own_of, item_of, plain_at};
-ghost use Rattle.groups.specs.Flatten.{Put, FlattenOutcome};
+ghost use Rattle.groups.specs.Flatten.{Put, FlattenOutcome, count_of};
 
 use rules::MOST_DEEP;
 
@@ -70,4 +70,14 @@ pub fn flatten(words: &[u16], plain: &mut [u16]) -> Option<usize>
         return None;
     }
     Some(read_list(words, MOST_DEEP, plain, 0))
+}
+
+// How many words a plain list has that was made; none after a no.
+pub fn count_of(flattened: Option<usize>) -> usize
+    ensures { result ≡ count_of flattened }
+{
+    match flattened {
+        Some(count) => count,
+        None => 0,
+    }
 }

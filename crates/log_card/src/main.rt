@@ -54,7 +54,7 @@ fn write_told<P: Print>(
     record: &[f64],
 ) -> io::Result<()> {
     let mut text = [0u8; card_text::TEXT_ROOM];
-    let end = card_text::first_line(told, &mut text);
+    let end = card_text::first_line(told.map_err(Fault::number), &mut text);
     out.write_all(&text[..end])?;
     match told {
         Ok(told) => rows::write_record(out, told.answer, period, record),

@@ -20,7 +20,6 @@
 #![tactic(auto)]
 
 use rules::{Answer, Cols, Ending, MatType, Rows, SolverParam, Storage};
-use std::io;
 
 const INTERVALS: usize = 1000;
 
@@ -202,10 +201,11 @@ fn apart(x: f64, y: f64) -> u64 {
 }
 
 // The digits of a number from 1/16 up to 128, without rounding: in parts of 2^-56 it is whole.
-fn write_decimals<P: Print>(out: &P, x: f64) -> io::Result<()> {
+fn write_decimals<P: Print>(out: &P, x: f64) {
     let parts = whole(x * 72057594037927936.0);
-    print!(out; "{}.", parts / 72057594037927936)?;
-    write_fraction(out, parts % 72057594037927936)
+    lines::write_decimal(out, parts / 72057594037927936);
+    lines::write(out, b".");
+    write_fraction(out, parts % 72057594037927936);
 }
 
 // A number without its fraction, 0 where that is none of 64 bits.
@@ -217,13 +217,12 @@ fn whole(x: f64) -> u64 {
     }
 }
 
-fn write_fraction<P: Print>(out: &P, parts: u64) -> io::Result<()> {
+fn write_fraction<P: Print>(out: &P, parts: u64) {
     let mut rest: u64 = parts;
     for _ in 0..DECIMALS {
         rest = (rest % 72057594037927936) * 10;
-        out.print(rest / 72057594037927936)?;
+        lines::write_decimal(out, rest / 72057594037927936);
     }
-    Ok(())
 }
 
 fn name_of(edition: u32) -> &'static str {
@@ -234,63 +233,85 @@ fn name_of(edition: u32) -> &'static str {
     }
 }
 
-fn write_number<P: Print>(out: &P, x: f64, exact: f64) -> io::Result<()> {
-    let pattern = patterns::pattern_of(x);
-    print!(out; "{pattern:016x} ")?;
-    write_decimals(out, x)?;
-    print!(out; ", off by {}", apart(x, exact))
+fn write_number<P: Print>(out: &P, x: f64, exact: f64) {
+    lines::write_pattern(out, patterns::pattern_of(x));
+    lines::write(out, b" ");
+    write_decimals(out, x);
+    lines::write(out, b", off by ");
+    lines::write_decimal(out, apart(x, exact));
 }
 
-// A number after the name of an edition of sums.
-fn write_line<P: Print>(out: &P, edition: u32, x: f64, exact: f64) -> io::Result<()> {
-    out.print(name_of(edition))?;
-    write_number(out, x, exact)?;
-    println!(out)
+fn write_edition<P: Print>(out: &P, edition: u32) {
+    lines::write(out, name_of(edition).as_bytes());
 }
 
-fn write_told<P: Print>(out: &P, fit: Fit, edition: u32) -> io::Result<()> {
+// The sum in an edition, after the edition's name.
+fn write_sum<P: Print>(out: &P, edition: u32) {
+    write_edition(out, edition);
+    write_number(out, interval_sum(edition), 100.0);
+    lines::write(out, b"\n");
+}
+
+fn write_norm<P: Print>(out: &P, edition: u32) {
+    write_edition(out, edition);
+    write_number(out, miss_norm(edition), 3.0);
+    lines::write(out, b"\n");
+}
+
+fn write_told<P: Print>(out: &P, fit: Fit, edition: u32) {
     let Told {
         offset,
         drift,
         steps,
         last,
     } = solved(fit, edition).unwrap_or(Told::NONE);
-    out.print(name_of(edition))?;
-    write_number(out, offset, 1.0)?;
-    out.print("; drift ")?;
-    write_number(out, drift, 0.25)?;
+    write_edition(out, edition);
+    write_number(out, offset, 1.0);
+    lines::write(out, b"; drift ");
+    write_number(out, drift, 0.25);
     if !last {
-        print!(out; "; another ending, after {steps} steps")?;
+        lines::write(out, b"; another ending, after ");
+        lines::write_decimal(out, steps);
+        lines::write(out, b" steps");
     }
-    println!(out)
+    lines::write(out, b"\n");
 }
 
-fn write_fit<P: Print>(out: &P, marks: usize, half: f64, bound: f64) -> io::Result<()> {
+fn write_fit<P: Print>(out: &P, marks: usize, half: f64, bound: f64) {
     let fit = Fit {
         m: marks.wrapping_add(1),
         half,
         bound,
     };
-    println!(out; "{marks} marks, 3,000 steps")?;
-    write_told(out, fit, 1)?;
-    write_told(out, fit, 2)
+    lines::write_decimal(out, marks as u64);
+    lines::write(out, b" marks, 3,000 steps\n");
+    write_told(out, fit, 1);
+    write_told(out, fit, 2);
 }
 
-fn run<P: Print>(out: &P) -> io::Result<()> {
-    out.println("The sum of 1,000 intervals of 0.1; nearest to the exact sum is 100")?;
-    write_line(out, 1, interval_sum(1), 100.0)?;
-    write_line(out, 2, interval_sum(2), 100.0)?;
-    out.println("The norm of 900 misses of 0.1; nearest to the exact norm is 3")?;
-    write_line(out, 1, miss_norm(1), 3.0)?;
-    write_line(out, 2, miss_norm(2), 3.0)?;
-    out.println("The latest offset of a fit, and its drift; exactly they are 1 and 0.25")?;
-    write_fit(out, 16, 0.0625, 5.0)?;
-    write_fit(out, 100, 0.0078125, 12.5)?;
-    write_fit(out, 400, 0.001953125, 25.0)?;
-    write_fit(out, 900, 0.0009765625, 37.5)
+fn run<P: Print>(out: &P) {
+    lines::write(
+        out,
+        b"The sum of 1,000 intervals of 0.1; nearest to the exact sum is 100\n",
+    );
+    write_sum(out, 1);
+    write_sum(out, 2);
+    lines::write(
+        out,
+        b"The norm of 900 misses of 0.1; nearest to the exact norm is 3\n",
+    );
+    write_norm(out, 1);
+    write_norm(out, 2);
+    lines::write(
+        out,
+        b"The latest offset of a fit, and its drift; exactly they are 1 and 0.25\n",
+    );
+    write_fit(out, 16, 0.0625, 5.0);
+    write_fit(out, 100, 0.0078125, 12.5);
+    write_fit(out, 400, 0.001953125, 25.0);
+    write_fit(out, 900, 0.0009765625, 37.5);
 }
 
-// A write that fails ends the output: to tell of it on standard error takes one more of C's functions, which nothing proves.
 fn main(rt: HostRuntime) {
-    let _ = run(&rt);
+    run(&rt);
 }

@@ -1,5 +1,7 @@
 // The state of a run as text: the line `state`, and then its words, each on a line as 16 hexadecimal digits. They are
 // the words of the run's record, then the numbers of work, then those of cone work.
+ghost use Rattle.std.specs.Prelude.{◌≤◌, length, IfSome};
+
 use piece_rules::RunRecord;
 use run_record::RECORD_WORDS;
 use std::{fmt, io};
@@ -50,7 +52,9 @@ pub(crate) fn read_state(bytes: &[u8], words: &mut [u64]) -> Result<RunRecord, D
 }
 
 // What follows the line `state`.
-fn after_mark(bytes: &[u8]) -> Option<&[u8]> {
+fn after_mark(bytes: &[u8]) -> Option<&[u8]>
+    ensures { IfSome result (λ rest. length rest.now ≤ length bytes.now) }
+{
     let mut start: usize = 0;
     for (i, &byte) in bytes.iter().enumerate() {
         if byte == b'\n' {

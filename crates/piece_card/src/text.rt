@@ -72,6 +72,6 @@ fn turned_away(ending: Ending) -> Logged {
 // The first line of the text that solve_card writes.
 fn write_first<P: Print>(out: &P, told: Result<Told<Logged>, Fault>) -> io::Result<()> {
     let mut text = [0u8; card_text::TEXT_ROOM];
-    let end = card_text::first_line(told, &mut text);
+    let end = card_text::first_line(told.map_err(Fault::number), &mut text);
     out.write_all(&text[..end])
 }

@@ -7,7 +7,6 @@ mod operations;
 
 use operations::Operation;
 use replay_semidefinite::semidefinite;
-use std::io;
 use std::io::Read;
 use tally::{Counts, Tally};
 
@@ -29,25 +28,25 @@ fn name_of(number: usize) -> Option<&'static str> {
     Operation::try_from(number as u64).ok().map(Operation::name)
 }
 
-fn run<R: Read, P: Print>(input: &mut R, out: &P) -> io::Result<()> {
+fn run<R: Read, P: Print>(input: &mut R, out: &P) {
     let Ok(records) = lines::read_word(input) else {
-        return out.println("stopped: there is no list");
+        lines::write(out, b"stopped: there is no list\n");
+        return;
     };
     let mut room = [0; RECORD_BYTES];
     let mut tally = Tally::new();
     let whole = lines::replay_all(input, records, &mut room, |number, record| {
         replay(number, record, &mut tally)
     });
-    tally.write(out, name_of)?;
+    tally.write(out, name_of);
     Counts {
         records,
         ..tally.total()
     }
-    .write_total(out, "cones", whole)?;
-    semidefinite::write_cases(out)
+    .write_total(out, "cones", whole);
+    semidefinite::write_cases(out);
 }
 
-// A write that fails ends the output: to tell of it on standard error takes one more of C's functions, which nothing proves.
 fn main(rt: HostRuntime) {
-    let _ = run(&mut rt.stdin(), &rt);
+    run(&mut rt.stdin(), &rt);
 }

@@ -4,7 +4,7 @@
 use replay::{record, room};
 use replay_lists::lists;
 use replay_semidefinite::semidefinite;
-use rules::{Cone, Projection};
+use rules::Cone;
 
 #[derive(Clone, Copy)]
 pub enum Operation {
@@ -54,8 +54,8 @@ impl Operation {
             Operation::SecondOrder => projects(Cone::SOC(record::size(record, 1)), record),
             Operation::Rotated => projects(Cone::RotSOC(record::size(record, 1)), record),
             Operation::Semidefinite => semidefinite::agrees(record),
-            Operation::Product => lists::projects(record),
-            Operation::Grouping => lists::groups(record),
+            Operation::Product => lists::agrees(false, record),
+            Operation::Grouping => lists::agrees(true, record),
         }
     }
 }
@@ -83,5 +83,5 @@ fn projects_and_not(cone: Cone, dual: bool, x: &mut [f64], size: usize) -> bool 
     let par = semidefinite::parameters(0.0, 1);
     let once = cone::proj(par, dual, cone, &mut x[..size], &mut []);
     let again = cone::proj(par, dual, cone, &mut x[..size + 1], &mut []);
-    matches!(once, Some(Projection::Done(0))) && again.is_none()
+    semidefinite::is_done(once, 0) && semidefinite::is_no(again)
 }

@@ -1,6 +1,7 @@
 // The operations of the list, by their numbers: whether a record's answer is this repository's too.
 use replay::{record, room};
 use replay_routines::routines;
+use replay_routines::routines::Routine;
 use rules::{Cols, MatType, Rows};
 
 #[derive(Clone, Copy)]
@@ -108,13 +109,13 @@ fn norm(record: &[u8]) -> bool {
 
 fn copy(record: &[u8]) -> bool {
     let n = record::size(record, 0);
-    routines::agrees(|x, _, y| linalg::copy(x, y), record, 1, 0, n)
+    routines::agrees(Routine::Copy, record, 1, 0, n)
 }
 
 fn add(record: &[u8]) -> bool {
     let n = record::size(record, 0);
     let alpha = record::number(record, 1);
-    routines::agrees(|x, _, y| linalg::add(alpha, x, y), record, 2, 0, n)
+    routines::agrees(Routine::Add(alpha), record, 2, 0, n)
 }
 
 // Whether a routine that changes a vector by a number makes of it what the record holds.
@@ -144,26 +145,14 @@ fn transform_di(record: &[u8]) -> bool {
     let n = record::size(record, 0);
     let alpha = record::number(record, 1);
     let beta = record::number(record, 2);
-    routines::agrees(
-        |mat, x, y| linalg::transform_di(alpha, mat, x, beta, y),
-        record,
-        3,
-        n,
-        n,
-    )
+    routines::agrees(Routine::TransformDi(alpha, beta), record, 3, n, n)
 }
 
 fn transform_sp(record: &[u8]) -> bool {
     let n = record::size(record, 0);
     let alpha = record::number(record, 1);
     let beta = record::number(record, 2);
-    routines::agrees(
-        |mat, x, y| packed_transform::transform_sp(Rows(n), alpha, mat, x, beta, y),
-        record,
-        3,
-        n,
-        n,
-    )
+    routines::agrees(Routine::TransformSp(Rows(n), alpha, beta), record, 3, n, n)
 }
 
 // Rows and columns, which stand after a flag.
@@ -185,9 +174,7 @@ fn transform_ge(record: &[u8]) -> bool {
     let alpha = record::number(record, 3);
     let beta = record::number(record, 4);
     routines::agrees(
-        |mat, x, y| {
-            transform::transform_ge(transpose, Rows(rows), Cols(cols), alpha, mat, x, beta, y)
-        },
+        Routine::TransformGe(transpose, Rows(rows), Cols(cols), alpha, beta),
         record,
         5,
         width,
@@ -212,13 +199,7 @@ fn op(record: &[u8]) -> bool {
     let (rows, cols) = sizes(record);
     let alpha = record::number(record, 3);
     let beta = record::number(record, 4);
-    routines::agrees(
-        |mat, x, y| matop::op(t, alpha, mat, x, beta, y),
-        record,
-        5,
-        cols,
-        rows,
-    )
+    routines::agrees(Routine::Op(t, alpha, beta), record, 5, cols, rows)
 }
 
 fn trans_op(record: &[u8]) -> bool {
@@ -228,13 +209,7 @@ fn trans_op(record: &[u8]) -> bool {
     let (rows, cols) = sizes(record);
     let alpha = record::number(record, 3);
     let beta = record::number(record, 4);
-    routines::agrees(
-        |mat, x, y| matop::trans_op(t, alpha, mat, x, beta, y),
-        record,
-        5,
-        rows,
-        cols,
-    )
+    routines::agrees(Routine::TransOp(t, alpha, beta), record, 5, rows, cols)
 }
 
 fn absadd_cols(record: &[u8]) -> bool {
@@ -242,13 +217,7 @@ fn absadd_cols(record: &[u8]) -> bool {
         return false;
     };
     let (_, cols) = sizes(record);
-    routines::agrees(
-        |mat, _, y| absadd::absadd_cols(t, mat, y),
-        record,
-        3,
-        0,
-        cols,
-    )
+    routines::agrees(Routine::AbsaddCols(t), record, 3, 0, cols)
 }
 
 fn absadd_rows(record: &[u8]) -> bool {
@@ -256,13 +225,7 @@ fn absadd_rows(record: &[u8]) -> bool {
         return false;
     };
     let (rows, _) = sizes(record);
-    routines::agrees(
-        |mat, _, y| absadd::absadd_rows(t, mat, y),
-        record,
-        3,
-        0,
-        rows,
-    )
+    routines::agrees(Routine::AbsaddRows(t), record, 3, 0, rows)
 }
 
 // Whether a helper makes of the first number the one that the record holds after it.

@@ -13,6 +13,15 @@ fn words_of(answer: Product) -> (u64, u64) {
     }
 }
 
+// Replays a record: whether a list of blocks is grouped, or else projected, as it says.
+pub fn agrees(grouped: bool, record: &[u8]) -> bool {
+    if grouped {
+        groups(record)
+    } else {
+        projects(record)
+    }
+}
+
 // Whether a list of blocks is projected as a record says.
 pub fn projects(record: &[u8]) -> bool {
     let Some(dual) = record::flag(record, 0) else {
@@ -46,7 +55,7 @@ pub fn groups(record: &[u8]) -> bool {
     }
     let words: [u16; MOST_WORDS] = room::cone_words(record, 2, blocks);
     let list = &words[..blocks];
-    routines::agrees(
+    routines::agrees_with(
         |_, _, xs| grouping::product_group(list, xs),
         record,
         blocks + 2,

@@ -8,7 +8,6 @@ use replay_cuts::held::{Cuts, Uncut};
 use replay_cuts::{handed, held, same};
 use replay_problems::{cuts, logs, room, runs};
 use rules::Logged;
-use std::io;
 use std::io::Read;
 use tally::Tally;
 
@@ -350,23 +349,25 @@ fn name_of(number: usize) -> Option<&'static str> {
     }
 }
 
-fn run<R: Read, P: Print>(input: &mut R, out: &P) -> io::Result<()> {
+fn run<R: Read, P: Print>(input: &mut R, out: &P) {
     let Ok(records) = lines::read_word(input) else {
-        return out.println("stopped: there is no list");
+        lines::write(out, b"stopped: there is no list\n");
+        return;
     };
     let mut room = room_of_a_record();
     let mut told = Told::new();
     let whole = lines::replay_all(input, records, &mut room, |_, record| {
         replay(record, &mut told)
     });
-    told.tally.write(out, name_of)?;
-    println!(out; "pieces: {}", told.pieces)?;
+    told.tally.write(out, name_of);
+    lines::write(out, b"pieces: ");
+    lines::write_decimal(out, told.pieces);
+    lines::write(out, b"\n");
     told.tally
         .of(ALL)
-        .write_total(out, "problems run in pieces", whole)
+        .write_total(out, "problems run in pieces", whole);
 }
 
-// A write that fails ends the output: to tell of it on standard error takes one more of C's functions, which nothing proves.
 fn main(rt: HostRuntime) {
-    let _ = run(&mut rt.stdin(), &rt);
+    run(&mut rt.stdin(), &rt);
 }

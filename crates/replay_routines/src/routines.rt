@@ -1,6 +1,57 @@
 // Routines that answer whether the lengths fit: one that takes a matrix, x and y, and changes y alone, where without a matrix x stands in its place; and a
 // projection, which changes x and its cone work, and answers two words.
 use replay::{record, room};
+use rules::{Cols, MatType, Rows};
+
+// The routines of vectors and matrices, each with the sizes and factors of its record.
+#[derive(Clone, Copy)]
+pub enum Routine {
+    Copy,
+    // alpha
+    Add(f64),
+    // alpha, beta
+    TransformDi(f64, f64),
+    TransformGe(bool, Rows, Cols, f64, f64),
+    TransformSp(Rows, f64, f64),
+    Op(MatType, f64, f64),
+    TransOp(MatType, f64, f64),
+    AbsaddCols(MatType),
+    AbsaddRows(MatType),
+}
+
+impl Routine {
+    // First is its matrix and second its x; without a matrix, first is its x.
+    fn run(self, first: &[f64], second: &[f64], y: &mut [f64]) -> bool {
+        match self {
+            Routine::Copy => linalg::copy(first, y),
+            Routine::Add(alpha) => linalg::add(alpha, first, y),
+            Routine::TransformDi(alpha, beta) => {
+                linalg::transform_di(alpha, first, second, beta, y)
+            }
+            Routine::TransformGe(transpose, rows, cols, alpha, beta) => transform::transform_ge(
+                transpose, rows, cols, alpha, first, second, beta, y,
+            ),
+            Routine::TransformSp(rows, alpha, beta) => packed_transform::transform_sp(
+                rows, alpha, first, second, beta, y,
+            ),
+            Routine::Op(t, alpha, beta) => matop::op(t, alpha, first, second, beta, y),
+            Routine::TransOp(t, alpha, beta) => matop::trans_op(t, alpha, first, second, beta, y),
+            Routine::AbsaddCols(t) => absadd::absadd_cols(t, first, y),
+            Routine::AbsaddRows(t) => absadd::absadd_rows(t, first, y),
+        }
+    }
+}
+
+// Replays one of these, as agrees_with says. It asks nothing, where a closure must be one that may be called.
+pub fn agrees(routine: Routine, record: &[u8], start: usize, width: usize, height: usize) -> bool {
+    agrees_with(
+        |first, second, y| routine.run(first, second, y),
+        record,
+        start,
+        width,
+        height,
+    )
+}
 
 // Runs a routine on the first n places of y, and again on one place more, which is one too many:
 // whether it answers yes and then no.
@@ -20,7 +71,7 @@ fn fits_and_not<F: FnMut(&[f64], &[f64], &mut [f64]) -> bool>(
 // turns a y down that is one place too long, and leaves it as it is. The numbers start at a place of
 // the record: the matrix, or x where there is none; x, of the width; y, of the height; the answer.
 // The first of these is what the others leave of the record, and the routine says whether it fits.
-pub fn agrees<F: FnMut(&[f64], &[f64], &mut [f64]) -> bool>(
+pub fn agrees_with<F: FnMut(&[f64], &[f64], &mut [f64]) -> bool>(
     routine: F,
     record: &[u8],
     start: usize,

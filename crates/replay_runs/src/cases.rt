@@ -1,7 +1,6 @@
 // The runs worked by hand in document 01 that are left to a program.
 use lines::write_case;
 use rules::{Cols, Rows, SolverParam, Storage};
-use std::io;
 
 // How many numbers of c, A or b, and how many places of work there may be.
 const ROOM: usize = 16;
@@ -33,20 +32,11 @@ fn of_zeros(m: usize, n: usize, c: usize, a: usize, work: usize, word: u16) -> u
 }
 
 // The words are a semidefinite block of 3 and of 4. Sizes at the limit are in limit_cases.
-pub fn write_cases<P: Print>(out: &P) -> io::Result<()> {
-    write_case(
-        out,
-        "kind 4 of size 3, accepted",
-        of_zeros(3, 1, 1, 3, 42, 32771) > 6,
-    )?;
-    write_case(
-        out,
-        "kind 4 of size 4, refused by 4",
-        of_zeros(4, 1, 1, 4, 52, 32772) == 4,
-    )?;
-    write_case(
-        out,
-        "c of wrong length and short work, refused by 3",
-        of_zeros(3, 1, 2, 3, 41, 32771) == 3,
-    )
+pub fn write_cases<P: Print>(out: &P) {
+    lines::write(out, b"kind 4 of size 3, accepted");
+    write_case(out, of_zeros(3, 1, 1, 3, 42, 32771) > 6);
+    lines::write(out, b"kind 4 of size 4, refused by 4");
+    write_case(out, of_zeros(4, 1, 1, 4, 52, 32772) == 4);
+    lines::write(out, b"c of wrong length and short work, refused by 3");
+    write_case(out, of_zeros(3, 1, 2, 3, 41, 32771) == 3);
 }

@@ -8,7 +8,6 @@ mod call;
 use alter::{counts, ended, lengths, state, tolerances, whole_numbers};
 use call::{Call, after_call, begun, ends_beside, ends_from, stands_still};
 use piece_rules::RunRecord;
-use std::io;
 
 // The bound of the rotations after 3 steps: 64 sweeps a step, of twice the one pair of order 2.
 const BOUND: u64 = 384;
@@ -26,11 +25,19 @@ const NAN: f64 = f64::NAN;
 
 const INFINITY: f64 = f64::INFINITY;
 
-// How many of a group's cases are right.
-fn write_group<P: Print>(out: &P, name: &str, cases: &[bool]) -> io::Result<()> {
+// How many are right, after a group's name.
+fn write_right<P: Print>(out: &P, right: u64, all: usize) {
+    lines::write(out, b": ");
+    lines::write_decimal(out, right);
+    lines::write(out, b" of ");
+    lines::write_decimal(out, all as u64);
+    lines::write(out, b"\n");
+}
+
+// How many of a group's cases are right, after its name.
+fn write_group<P: Print>(out: &P, cases: &[bool]) {
     let right = cases.iter().filter(|right| **right).count();
-    let all = cases.len();
-    println!(out; "{name}: {right} of {all}")
+    write_right(out, right as u64, cases.len());
 }
 
 // ---- stale alone
@@ -40,10 +47,10 @@ fn stale(record: RunRecord) -> bool {
     after_call(record, Call::AS_BEGUN, 1) == STALE
 }
 
-fn write_stale<P: Print>(out: &P, r: RunRecord) -> io::Result<()> {
+fn write_stale<P: Print>(out: &P, r: RunRecord) {
+    lines::write(out, b"stale alone, lengths");
     write_group(
         out,
-        "stale alone, lengths",
         &[
             stale(lengths(r, 1, 0, 0, 0, 0, 0)),
             stale(lengths(r, 0, 1, 0, 0, 0, 0)),
@@ -52,10 +59,10 @@ fn write_stale<P: Print>(out: &P, r: RunRecord) -> io::Result<()> {
             stale(lengths(r, 0, 0, 0, 0, 1, 0)),
             stale(lengths(r, 0, 0, 0, 0, 0, 1)),
         ],
-    )?;
+    );
+    lines::write(out, b"stale alone, limits, period and edition");
     write_group(
         out,
-        "stale alone, limits, period and edition",
         &[
             stale(whole_numbers(r, 8, 64, 1, 1)),
             stale(whole_numbers(r, 6, 64, 1, 1)),
@@ -63,10 +70,10 @@ fn write_stale<P: Print>(out: &P, r: RunRecord) -> io::Result<()> {
             stale(whole_numbers(r, 7, 64, 2, 1)),
             stale(whole_numbers(r, 7, 64, 1, 2)),
         ],
-    )?;
+    );
+    lines::write(out, b"stale alone, tolerances");
     write_group(
         out,
-        "stale alone, tolerances",
         &[
             stale(tolerances(r, 1.0, 0.0, 0.0)),
             stale(tolerances(r, 0.0, 1.0, 0.0)),
@@ -77,10 +84,10 @@ fn write_stale<P: Print>(out: &P, r: RunRecord) -> io::Result<()> {
             stale(tolerances(r, 0.0, 0.0, 1.0)),
             stale(tolerances(r, 0.0, 0.0, NAN)),
         ],
-    )?;
+    );
+    lines::write(out, b"stale alone, counts and the end");
     write_group(
         out,
-        "stale alone, counts and the end",
         &[
             stale(counts(r, 7, 0, 2, 1)),
             stale(counts(r, u64::MAX, 0, 2, 1)),
@@ -94,17 +101,16 @@ fn write_stale<P: Print>(out: &P, r: RunRecord) -> io::Result<()> {
             stale(counts(r, 3, 0, 1, u64::MAX)),
             stale(ended(r)),
         ],
-    )
+    );
 }
 
 // ---- in pairs
 
 // This stale record with each of the six refusals of a run: how many come first, with all kept.
-fn write_before_stale<P: Print>(out: &P, name: &str, record: RunRecord) -> io::Result<()> {
+fn write_before_stale<P: Print>(out: &P, record: RunRecord) {
     let same = Call::AS_BEGUN;
     write_group(
         out,
-        name,
         &[
             after_call(
                 record,
@@ -151,34 +157,21 @@ fn write_before_stale<P: Print>(out: &P, name: &str, record: RunRecord) -> io::R
     )
 }
 
-fn write_pairs<P: Print>(out: &P, r: RunRecord) -> io::Result<()> {
-    write_before_stale(out, "refused by 1 to 6, and ended", ended(r))?;
-    write_before_stale(
-        out,
-        "refused by 1 to 6, and no step left",
-        counts(r, 7, 0, 2, 1),
-    )?;
-    write_before_stale(
-        out,
-        "refused by 1 to 6, and a NaN for a tolerance",
-        tolerances(r, NAN, 0.0, 0.0),
-    )?;
-    write_before_stale(
-        out,
-        "refused by 1 to 6, and another length",
-        lengths(r, 0, 0, 0, 1, 0, 0),
-    )?;
-    write_before_stale(
-        out,
-        "refused by 1 to 6, and too many rotations",
-        counts(r, 3, BOUND + 1, 2, 1),
-    )?;
-    write_before_stale(
-        out,
-        "refused by 1 to 6, and too many rows",
-        counts(r, 3, 0, u64::MAX, 1),
-    )?;
-    write_before_stale(out, "refused by 1 to 6, and not stale", r)
+fn write_pairs<P: Print>(out: &P, r: RunRecord) {
+    lines::write(out, b"refused by 1 to 6, and ended");
+    write_before_stale(out, ended(r));
+    lines::write(out, b"refused by 1 to 6, and no step left");
+    write_before_stale(out, counts(r, 7, 0, 2, 1));
+    lines::write(out, b"refused by 1 to 6, and a NaN for a tolerance");
+    write_before_stale(out, tolerances(r, NAN, 0.0, 0.0));
+    lines::write(out, b"refused by 1 to 6, and another length");
+    write_before_stale(out, lengths(r, 0, 0, 0, 1, 0, 0));
+    lines::write(out, b"refused by 1 to 6, and too many rotations");
+    write_before_stale(out, counts(r, 3, BOUND + 1, 2, 1));
+    lines::write(out, b"refused by 1 to 6, and too many rows");
+    write_before_stale(out, counts(r, 3, 0, u64::MAX, 1));
+    lines::write(out, b"refused by 1 to 6, and not stale");
+    write_before_stale(out, r);
 }
 
 // ---- not stale
@@ -188,16 +181,16 @@ fn taken(record: RunRecord, call: Call) -> bool {
     after_call(record, call, 1) == HALTED && after_call(record, call, ALL_STEPS) == ENDED
 }
 
-fn write_not_stale<P: Print>(out: &P, r: RunRecord) -> io::Result<()> {
+fn write_not_stale<P: Print>(out: &P, r: RunRecord) {
     let below = tolerances(r, 0.0, 0.0, -0.0);
     let same = Call::AS_BEGUN;
     let below_too = Call {
         eps_zero: -0.0,
         ..same
     };
+    lines::write(out, b"not stale");
     write_group(
         out,
-        "not stale",
         &[
             taken(below, same),
             taken(r, below_too),
@@ -209,7 +202,7 @@ fn write_not_stale<P: Print>(out: &P, r: RunRecord) -> io::Result<()> {
             taken(counts(r, 3, 0, 0, 3), same),
             taken(counts(r, 3, 0, 0, 0), same),
         ],
-    )
+    );
 }
 
 // ---- altered, still ends
@@ -219,10 +212,10 @@ fn ends(record: RunRecord) -> bool {
     after_call(record, Call::AS_BEGUN, ALL_STEPS) == ENDED
 }
 
-fn write_ends<P: Print>(out: &P, r: RunRecord) -> io::Result<()> {
+fn write_ends<P: Print>(out: &P, r: RunRecord) {
+    lines::write(out, b"altered buffers, ended by step 7");
     write_group(
         out,
-        "altered buffers, ended by step 7",
         &[
             ends_from(r, 7.5, 0.0, 0.0),
             ends_from(r, NAN, 0.0, 0.0),
@@ -236,10 +229,10 @@ fn write_ends<P: Print>(out: &P, r: RunRecord) -> io::Result<()> {
             ends_beside(r, NAN, 7.0),
             ends_beside(r, 7.5, NAN),
         ],
-    )?;
+    );
+    lines::write(out, b"altered record, ended by step 7");
     write_ends_twice(
         out,
-        "altered record, ended by step 7",
         &[
             state(r, 0.0, 1.0, 1.0),
             state(r, NAN, 1.0, 1.0),
@@ -252,19 +245,18 @@ fn write_ends<P: Print>(out: &P, r: RunRecord) -> io::Result<()> {
             counts(r, 0, 0, 0, 0),
             counts(r, 6, 0, 0, 6),
         ],
-    )
+    );
 }
 
 // Each of these records from buffers as they are, and from those filled with 7.5.
-fn write_ends_twice<P: Print>(out: &P, name: &str, records: &[RunRecord]) -> io::Result<()> {
+fn write_ends_twice<P: Print>(out: &P, records: &[RunRecord]) {
     let same = records.iter().filter(|r| ends(**r)).count();
     let filled = records
         .iter()
         .filter(|r| ends_from(**r, 7.5, 7.5, 7.5))
         .count();
     let right = same.wrapping_add(filled);
-    let all = records.len().wrapping_mul(2);
-    println!(out; "{name}: {right} of {all}")
+    write_right(out, right as u64, records.len().wrapping_mul(2));
 }
 
 // ---- a later piece of 0 steps
@@ -274,10 +266,10 @@ fn still(record: RunRecord, number: f64) -> bool {
     after_call(record, Call::AS_BEGUN, 0) == HALTED && stands_still(record, number)
 }
 
-fn write_still<P: Print>(out: &P, r: RunRecord) -> io::Result<()> {
+fn write_still<P: Print>(out: &P, r: RunRecord) {
+    lines::write(out, b"0 steps, the same record and all kept");
     write_group(
         out,
-        "0 steps, the same record and all kept",
         &[
             still(r, 7.5),
             still(r, NAN),
@@ -287,23 +279,24 @@ fn write_still<P: Print>(out: &P, r: RunRecord) -> io::Result<()> {
             still(counts(r, 0, 0, 0, 0), 7.5),
             still(counts(r, 6, BOUND, 1, 5), -0.0),
         ],
-    )
+    );
 }
 
-fn run<P: Print>(out: &P) -> io::Result<()> {
+fn run<P: Print>(out: &P) {
     let record = begun();
-    println!(out; "after 3 steps: {} of 3", record.steps)?;
-    write_group(out, "rotations above 0", &[record.rotations > 0])?;
-    let rows = record.written.wrapping_add(record.dropped);
-    println!(out; "rows written and dropped: {rows} of 3")?;
-    write_stale(out, record)?;
-    write_pairs(out, record)?;
-    write_not_stale(out, record)?;
-    write_ends(out, record)?;
-    write_still(out, record)
+    lines::write(out, b"after 3 steps");
+    write_right(out, record.steps, 3);
+    lines::write(out, b"rotations above 0");
+    write_group(out, &[record.rotations > 0]);
+    lines::write(out, b"rows written and dropped");
+    write_right(out, record.written.wrapping_add(record.dropped), 3);
+    write_stale(out, record);
+    write_pairs(out, record);
+    write_not_stale(out, record);
+    write_ends(out, record);
+    write_still(out, record);
 }
 
-// A write that fails ends the output: to tell of it on standard error takes one more of C's functions, which nothing proves.
 fn main(rt: HostRuntime) {
-    let _ = run(&rt);
+    run(&rt);
 }

@@ -3,7 +3,7 @@ ghost use Rattle.std.specs.Prelude.{◌≡◌, cond, nat_lt, replicate, slice_in
 ghost use Rattle.tally.specs.Tallies.{counted, total_of};
 ghost use Rattle.tally.specs.Counted.{counts};
 
-use std::{fmt, io};
+use std::fmt;
 
 // How many records there are of a kind, how many agree with the list, and how many differ.
 #[derive(Clone, Copy)]
@@ -24,28 +24,21 @@ impl Counts {
         }
     }
 
-    // The last line: all counts after the list's name. What stopped the replay is a difference too.
-    pub fn write_total<P: Print>(self, out: &P, name: &str, whole: bool) -> io::Result<()> {
-        if whole {
-            return println!(out; "{name}: {self}");
-        }
-        let counts = Counts {
-            differ: self.differ.wrapping_add(1),
-            ..self
-        };
-        out.println("stopped: a record is cut short, of no known operation, or one too many")?;
-        println!(out; "{name}: {counts}")
+    // The counts after a name, to the end of the line.
+    pub fn write<P: Print>(self, out: &P) {
+        lines::write_counts(out, self.records, self.agree, self.differ);
     }
-}
 
-impl fmt::Display for Counts {
-    fn fmt<W: fmt::Write>(&self, f: &mut fmt::Formatter<W>) -> fmt::Result {
-        let Counts {
-            records,
-            agree,
-            differ,
-        } = *self;
-        write!(f, "{records} records, {agree} agree, {differ} differ")
+    // The last line: all counts after the list's name. What stopped the replay is a difference too.
+    pub fn write_total<P: Print>(self, out: &P, name: &str, whole: bool) {
+        lines::write_total(
+            out,
+            name.as_bytes(),
+            whole,
+            self.records,
+            self.agree,
+            self.differ,
+        );
     }
 }
 
@@ -97,19 +90,20 @@ impl<const N: usize> Tally<N> {
         Counts::new(crate::total(&self.agree), crate::total(&self.differ))
     }
 
-    // A line for each number that has a name.
+    // A line for each number that has a name. Where its name can't be written its counts are not; the next line is tried all the same.
     pub fn write<P: Print, D: fmt::Display + Drop, F: Fn(usize) -> Option<D>>(
         &self,
         out: &P,
         name_of: F,
-    ) -> io::Result<()>
+    )
         requires { F.IsAlwaysCallable name_of }
     {
         for at in 0..N {
             if let Some(name) = name_of(at) {
-                println!(out; "{name}: {}", self.of(at))?;
+                if out.print(name).is_ok() {
+                    self.of(at).write(out);
+                }
             }
         }
-        Ok(())
     }
 }

@@ -14,7 +14,7 @@ put_answer-requires c =
     }
 
 pub returns-in-Err-clause-says : goal.returns-in-Err-clause-says
-returns-in-Err-clause-says c = rw c.in-Err.is c.put_fault.ensures.says
+returns-in-Err-clause-says c = rw (c.in-Err.is, ← c.number.ensures) c.put_fault.ensures.says
 
 pub returns-in-Ok-clause-says : goal.returns-in-Ok-clause-says
 returns-in-Ok-clause-says c = rw c.in-Ok.is (rw (c.solution_x-x.ensures, c.solution_y-y.ensures) at c.put_answer.ensures.says)

@@ -1,11 +1,10 @@
 -- `solver::entry::accepted` meets its contract: the vectors start as +0, and of cone work the required part is lent.
-use Prim.Native.Nat.{ℕ, ◌+◌, ◌*◌}
+use Prim.Native.Nat.{◌+◌, ◌*◌}
 use mathlib.Core.Path.{refl, sym, ap}
 use lib.ListN.{take}
-use Rattle.std.specs.Prelude.{Option}
-use Rattle.std.specs.Option.{unwrap_or}
 use Rattle.rules.specs.Limits.{limit}
 use Rattle.rules.specs.Problem.{problem_in, slices}
+use Rattle.groups.specs.Flatten.{count_of}
 use Rattle.groups.proofs.Front.{front_is_plain}
 use Rattle.solver.proofs.Outcomes.{at_zero, left_as}
 use Rattle.solver.proofs.entry.accepted.Goals as goal
@@ -15,7 +14,7 @@ run_in-requires-clause-at_zero c = at_zero c.args.shape c.requires.taken.ready.o
 
 pub returns : goal.returns
 returns c =
-    let plain = front_is_plain c.args.words.now _ c.requires.few_words _ _ c.flatten.ensures _ (sym (ap (λ (a : Option ℕ). unwrap_or a 0) c.unwrap-count.ensures)) in
+    let plain = front_is_plain c.args.words.now _ c.requires.few_words _ _ c.flatten.ensures _ (sym (ap count_of c.unwrap-count.ensures)) in
     let list = take c.unwrap-count.result c.flatten.new.plain in
     let p = problem_in c.args.shape c.args.c.now (slices c.args.a1.now c.args.a2.now) c.args.b.now list c.args.par in
     rw plain at (left_as p c.args.work.now c.args.cone_work.now c.args.log.now _ c.cone_work_len-needed.ensures _ _ _ _ c.run_in.ensures)

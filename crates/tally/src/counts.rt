@@ -3,7 +3,7 @@ ghost use Rattle.std.specs.Prelude.{◌≡◌, cond, nat_lt, replicate, slice_in
 ghost use Rattle.tally.specs.Tallies.{counted, total_of};
 ghost use Rattle.tally.specs.Counted.{counts};
 
-use std::fmt;
+use std::{fmt, io};
 
 // How many records there are of a kind, how many agree with the list, and how many differ.
 #[derive(Clone, Copy)]
@@ -29,8 +29,21 @@ impl Counts {
         lines::write_counts(out, self.records, self.agree, self.differ);
     }
 
-    // The last line: all counts after the list's name. What stopped the replay is a difference too.
-    pub fn write_total<P: Print>(self, out: &P, name: &str, whole: bool) {
+    // The last line: all counts after the list's name. What stopped the replay is a difference too. A write that fails is the error, and the last.
+    pub fn write_total<P: Print>(self, out: &P, name: &str, whole: bool) -> io::Result<()> {
+        if whole {
+            return println!(out; "{name}: {self}");
+        }
+        let counts = Counts {
+            differ: self.differ.wrapping_add(1),
+            ..self
+        };
+        out.println("stopped: a record is cut short, of no known operation, or one too many")?;
+        println!(out; "{name}: {counts}")
+    }
+
+    // The same lines, of which each part is tried, whatever became of those before it.
+    pub fn write_total_each<P: Print>(self, out: &P, name: &str, whole: bool) {
         lines::write_total(
             out,
             name.as_bytes(),
@@ -39,6 +52,17 @@ impl Counts {
             self.agree,
             self.differ,
         );
+    }
+}
+
+impl fmt::Display for Counts {
+    fn fmt<W: fmt::Write>(&self, f: &mut fmt::Formatter<W>) -> fmt::Result {
+        let Counts {
+            records,
+            agree,
+            differ,
+        } = *self;
+        write!(f, "{records} records, {agree} agree, {differ} differ")
     }
 }
 
@@ -90,8 +114,24 @@ impl<const N: usize> Tally<N> {
         Counts::new(crate::total(&self.agree), crate::total(&self.differ))
     }
 
-    // A line for each number that has a name. Where its name can't be written its counts are not; the next line is tried all the same.
+    // A line for each number that has a name. A write that fails is the error, and the last.
     pub fn write<P: Print, D: fmt::Display + Drop, F: Fn(usize) -> Option<D>>(
+        &self,
+        out: &P,
+        name_of: F,
+    ) -> io::Result<()>
+        requires { F.IsAlwaysCallable name_of }
+    {
+        for at in 0..N {
+            if let Some(name) = name_of(at) {
+                println!(out; "{name}: {}", self.of(at))?;
+            }
+        }
+        Ok(())
+    }
+
+    // The same lines. Where a name can't be written its counts are not; the next line is tried all the same.
+    pub fn write_each<P: Print, D: fmt::Display + Drop, F: Fn(usize) -> Option<D>>(
         &self,
         out: &P,
         name_of: F,
@@ -104,6 +144,121 @@ impl<const N: usize> Tally<N> {
                     self.of(at).write(out);
                 }
             }
+        }
+    }
+}
+
+#[cfg(test)]
+mod tests {
+    use super::*;
+    use std::cell::Cell;
+    use std::test::Fail;
+
+    // Takes so many writes and fails at each further one; how many were tried.
+    #[derive(Drop)]
+    struct Taking {
+        takes: Cell<u64>,
+        tried: Cell<u64>,
+    }
+
+    impl Taking {
+        fn of(takes: u64) -> Self {
+            Taking {
+                takes: Cell::new(takes),
+                tried: Cell::new(0),
+            }
+        }
+
+        fn take(&self) -> io::Result<()> {
+            self.tried.set(self.tried.get().wrapping_add(1));
+            let left = self.takes.get();
+            if left == 0 {
+                return Err(io::ErrorKind::StorageFull.into());
+            }
+            self.takes.set(left - 1);
+            Ok(())
+        }
+    }
+
+    impl Print for Taking {
+        fn print<D: fmt::Display + Drop>(&self, value: D) -> io::Result<()> {
+            let _ = value;
+            self.take()
+        }
+
+        fn println<D: fmt::Display + Drop>(&self, value: D) -> io::Result<()> {
+            let _ = value;
+            self.take()
+        }
+
+        fn write_all(&self, bytes: &[u8]) -> io::Result<()> {
+            let _ = bytes;
+            self.take()
+        }
+    }
+
+    // Two of three numbers have a name.
+    fn name_of(number: usize) -> Option<&'static str> {
+        match number {
+            0 => Some("none"),
+            2 => Some("two"),
+            _ => None,
+        }
+    }
+
+    #[test]
+    fn counts_are_shown(rt: HostRuntime) -> Result<(), Fail> {
+        let text = format!(in rt.alloc(); "{}", Counts::new(3, 1))?;
+        assert_eq!(rt; text.as_str(), "4 records, 3 agree, 1 differ");
+        Ok(())
+    }
+
+    #[test]
+    fn a_write_that_fails_ends_a_tally(rt: HostRuntime) {
+        let tally = Tally::<3>::new();
+        assert!(rt; tally.write(&rt, name_of).is_ok());
+        for takes in 0..3 {
+            let out = Taking::of(takes);
+            assert_eq!(rt;
+                tally.write(&out, name_of).is_ok(),
+                takes == 2,
+                "at {takes}"
+            );
+            assert_eq!(rt;
+                out.tried.get(),
+                if takes == 0 { 1 } else { 2 },
+                "at {takes}"
+            );
+            let each = Taking::of(takes);
+            tally.write_each(&each, name_of);
+            // a name that fails has no counts after it; where one is written, seven more writes are tried
+            assert_eq!(rt;
+                each.tried.get(),
+                if takes == 0 { 2 } else { 9 },
+                "at {takes}"
+            );
+        }
+    }
+
+    #[test]
+    fn a_write_that_fails_ends_a_total(rt: HostRuntime) {
+        let counts = Counts::new(3, 1);
+        assert!(rt; counts.write_total(&rt, "whole", true).is_ok());
+        assert!(rt; counts.write_total(&rt, "cut short", false).is_ok());
+        for (whole, lines) in [(true, 1), (false, 2)] {
+            for takes in 0..lines {
+                let out = Taking::of(takes);
+                assert!(rt;
+                    counts.write_total(&out, "name", whole).is_err(),
+                    "at {takes}"
+                );
+                assert_eq!(rt; out.tried.get(), takes + 1, "at {takes}");
+            }
+            assert!(rt;
+                counts
+                    .write_total(&Taking::of(lines), "name", whole)
+                    .is_ok()
+            );
         }
     }
 }

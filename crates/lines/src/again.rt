@@ -18,7 +18,7 @@ pub fn replay_all<R: Read, F: FnMut(u64, &[u8]) -> bool>(
     input: &mut R,
     records: u64,
     room: &mut [u8],
-    replay: F,
+    mut replay: F,
 ) -> bool
     requires { F.IsAlwaysCallable replay }
 {

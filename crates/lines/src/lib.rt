@@ -1,5 +1,5 @@
-// Reading a list, and the lines that several programs write. A read that fails ends what is read, also one that is only interrupted but for `read_word`
-// and `replay_all`. A write that fails is told by what is answered, and what comes after it is tried all the same.
+// Reading a list, and the lines that several programs write. A read that fails ends what is read, also one that is only interrupted, which
+// `read_word` and `replay_all` alone try again. A write that fails is told by what is answered, and what comes after it is tried all the same.
 #![tactic(auto)]
 
 ghost use Rattle.io.specs.Counts.{IsPrefixLen};

@@ -1,9 +1,14 @@
-// Reading a list, and the lines that several programs write. A read that fails ends what is read. A write that fails is told by what is answered, and
-// what comes after it is tried all the same.
+// Reading a list, and the lines that several programs write. A read that fails ends what is read, also one that is only interrupted, which
+// `read_word` and `replay_all` alone try again. A write that fails is told by what is answered, and what comes after it is tried all the same.
 #![tactic(auto)]
 
 ghost use Rattle.io.specs.Counts.{IsPrefixLen};
 
+mod again;
+#[cfg(test)]
+mod tests;
+
+pub use again::{read_word, replay_all};
 use std::io;
 use std::io::Read;
 
@@ -33,7 +38,7 @@ pub fn at_end<R: Read>(input: &mut R) -> bool {
 }
 
 // The next word of a list: eight bytes, the most significant first.
-pub fn read_word<R: Read>(input: &mut R) -> io::Result<u64> {
+pub fn next_word<R: Read>(input: &mut R) -> io::Result<u64> {
     let mut bytes = [0; 8];
     if read(input, &mut bytes, 8) {
         Ok(patterns::word_at(&bytes, 0))
@@ -62,7 +67,7 @@ fn read_record<'a, R: Read>(input: &mut R, room: &'a mut [u8]) -> Option<(u64, &
 }
 
 // Replays so many records, or up to one that can't be: whether all were, and nothing follows.
-pub fn replay_all<R: Read, F: FnMut(u64, &[u8]) -> bool>(
+pub fn replay_records<R: Read, F: FnMut(u64, &[u8]) -> bool>(
     input: &mut R,
     records: u64,
     room: &mut [u8],

@@ -6,7 +6,7 @@ use std::io::Read;
 
 // Reads a card and answers it: whether there was a whole one, and all of the answer was written.
 fn answer_one<R: Read, P: Print>(input: &mut R, out: &P) -> bool {
-    let Ok(length) = lines::read_word(input) else {
+    let Ok(length) = lines::next_word(input) else {
         return false;
     };
     let mut card = [0u8; card_file::ENOUGH];
@@ -32,7 +32,7 @@ fn replay<R: Read, P: Print>(input: &mut R, out: &P, cards: u64) -> bool {
 // A write of the last line that fails is told by nothing.
 fn main(rt: HostRuntime) {
     let mut input = rt.stdin();
-    let Ok(cards) = lines::read_word(&mut input) else {
+    let Ok(cards) = lines::next_word(&mut input) else {
         let _ = rt.println("stopped: there is no list");
         return;
     };

@@ -28,21 +28,21 @@ fn name_of(number: usize) -> Option<&'static str> {
 }
 
 fn run<R: Read, P: Print>(input: &mut R, out: &P) {
-    let Ok(records) = lines::read_word(input) else {
+    let Ok(records) = lines::next_word(input) else {
         lines::write(out, b"stopped: there is no list\n");
         return;
     };
     let mut room = [0; RECORD_BYTES];
     let mut tally = Tally::new();
-    let whole = lines::replay_all(input, records, &mut room, |number, record| {
+    let whole = lines::replay_records(input, records, &mut room, |number, record| {
         replay(number, record, &mut tally)
     });
-    tally.write(out, name_of);
+    tally.write_each(out, name_of);
     Counts {
         records,
         ..tally.total()
     }
-    .write_total(out, "kernels", whole);
+    .write_total_each(out, "kernels", whole);
 }
 
 fn main(rt: HostRuntime) {

@@ -90,7 +90,7 @@ fn name_of(number: usize) -> Option<&'static str> {
 }
 
 fn run<R: Read, P: Print>(input: &mut R, out: &P) {
-    let Ok(records) = lines::read_word(input) else {
+    let Ok(records) = lines::next_word(input) else {
         lines::write(out, b"stopped: there is no list\n");
         return;
     };
@@ -98,13 +98,13 @@ fn run<R: Read, P: Print>(input: &mut R, out: &P) {
     let mut a = numbers_of_a();
     let mut tally = Tally::new();
     // A record's first word adds up the listed differences that the problem meets, which are counted with the runs.
-    let whole = lines::replay_all(input, records, &mut room, |_, record| {
+    let whole = lines::replay_records(input, records, &mut room, |_, record| {
         replay(record, &mut a, &mut tally)
     });
-    tally.write(out, name_of);
+    tally.write_each(out, name_of);
     tally
         .of(ALL)
-        .write_total(out, "runs with a progress record", whole);
+        .write_total_each(out, "runs with a progress record", whole);
 }
 
 fn main(rt: HostRuntime) {

@@ -350,22 +350,22 @@ fn name_of(number: usize) -> Option<&'static str> {
 }
 
 fn run<R: Read, P: Print>(input: &mut R, out: &P) {
-    let Ok(records) = lines::read_word(input) else {
+    let Ok(records) = lines::next_word(input) else {
         lines::write(out, b"stopped: there is no list\n");
         return;
     };
     let mut room = room_of_a_record();
     let mut told = Told::new();
-    let whole = lines::replay_all(input, records, &mut room, |_, record| {
+    let whole = lines::replay_records(input, records, &mut room, |_, record| {
         replay(record, &mut told)
     });
-    told.tally.write(out, name_of);
+    told.tally.write_each(out, name_of);
     lines::write(out, b"pieces: ");
     lines::write_decimal(out, told.pieces);
     lines::write(out, b"\n");
     told.tally
         .of(ALL)
-        .write_total(out, "problems run in pieces", whole);
+        .write_total_each(out, "problems run in pieces", whole);
 }
 
 fn main(rt: HostRuntime) {

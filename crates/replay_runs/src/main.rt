@@ -110,18 +110,18 @@ fn name_of(number: usize) -> Option<&'static str> {
 }
 
 fn run<R: Read, P: Print>(input: &mut R, out: &P) {
-    let Ok(records) = lines::read_word(input) else {
+    let Ok(records) = lines::next_word(input) else {
         lines::write(out, b"stopped: there is no list\n");
         return;
     };
     let mut room = bytes_of_a_record();
     let mut a = numbers_of_a();
     let mut tally = Tally::new();
-    let whole = lines::replay_all(input, records, &mut room, |tag, record| {
+    let whole = lines::replay_records(input, records, &mut room, |tag, record| {
         replay(tag, record, &mut a, &mut tally)
     });
-    tally.write(out, name_of);
-    tally.of(ALL).write_total(out, "runs", whole);
+    tally.write_each(out, name_of);
+    tally.of(ALL).write_total_each(out, "runs", whole);
     cases::write_cases(out);
 }
 

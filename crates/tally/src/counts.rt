@@ -3,7 +3,7 @@ ghost use Rattle.std.specs.Prelude.{◌≡◌, cond, nat_lt, replicate, slice_in
 ghost use Rattle.tally.specs.Tallies.{counted, total_of};
 ghost use Rattle.tally.specs.Counted.{counts};
 
-use std::fmt;
+use std::{fmt, io};
 
 // How many records there are of a kind, how many agree with the list, and how many differ.
 #[derive(Clone, Copy)]
@@ -29,8 +29,21 @@ impl Counts {
         lines::write_counts(out, self.records, self.agree, self.differ);
     }
 
-    // The last line: all counts after the list's name. What stopped the replay is a difference too.
-    pub fn write_total<P: Print>(self, out: &P, name: &str, whole: bool) {
+    // The last line: all counts after the list's name. What stopped the replay is a difference too. A write that fails is the error, and the last.
+    pub fn write_total<P: Print>(self, out: &P, name: &str, whole: bool) -> io::Result<()> {
+        if whole {
+            return println!(out; "{name}: {self}");
+        }
+        let counts = Counts {
+            differ: self.differ.wrapping_add(1),
+            ..self
+        };
+        out.println("stopped: a record is cut short, of no known operation, or one too many")?;
+        println!(out; "{name}: {counts}")
+    }
+
+    // The same lines, of which each part is tried, whatever became of those before it.
+    pub fn write_total_each<P: Print>(self, out: &P, name: &str, whole: bool) {
         lines::write_total(
             out,
             name.as_bytes(),
@@ -39,6 +52,17 @@ impl Counts {
             self.agree,
             self.differ,
         );
+    }
+}
+
+impl fmt::Display for Counts {
+    fn fmt<W: fmt::Write>(&self, f: &mut fmt::Formatter<W>) -> fmt::Result {
+        let Counts {
+            records,
+            agree,
+            differ,
+        } = *self;
+        write!(f, "{records} records, {agree} agree, {differ} differ")
     }
 }
 
@@ -90,8 +114,24 @@ impl<const N: usize> Tally<N> {
         Counts::new(crate::total(&self.agree), crate::total(&self.differ))
     }
 
-    // A line for each number that has a name. Where its name can't be written its counts are not; the next line is tried all the same.
+    // A line for each number that has a name. A write that fails is the error, and the last.
     pub fn write<P: Print, D: fmt::Display + Drop, F: Fn(usize) -> Option<D>>(
+        &self,
+        out: &P,
+        name_of: F,
+    ) -> io::Result<()>
+        requires { F.IsAlwaysCallable name_of }
+    {
+        for at in 0..N {
+            if let Some(name) = name_of(at) {
+                println!(out; "{name}: {}", self.of(at))?;
+            }
+        }
+        Ok(())
+    }
+
+    // The same lines. Where a name can't be written its counts are not; the next line is tried all the same.
+    pub fn write_each<P: Print, D: fmt::Display + Drop, F: Fn(usize) -> Option<D>>(
         &self,
         out: &P,
         name_of: F,

@@ -1,4 +1,5 @@
-// Reading a list where a read that is interrupted is tried again. One that fails otherwise ends it, and is a word's error.
+// Reading a list where a read that is interrupted is tried again. One that fails otherwise ends it, and is a word's error. It is not `replay_records` over
+// another reader: that reads a record's two first words at once, which a reader can tell.
 ghost use Rattle.lines.specs.Taken.{TakesWord};
 
 use std::io;

@@ -5,8 +5,6 @@
 ghost use Rattle.io.specs.Counts.{IsPrefixLen};
 
 mod again;
-#[cfg(test)]
-mod tests;
 
 pub use again::{read_word, replay_all};
 use std::io;

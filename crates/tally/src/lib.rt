@@ -5,8 +5,6 @@ ghost use Rattle.std.specs.Prelude.{◌≡◌, length, nat_lt};
 ghost use Rattle.tally.specs.Tallies.{counted, total_of};
 
 mod counts;
-#[cfg(test)]
-mod tests;
 
 pub use counts::{Counts, Tally};
 

@@ -1,9 +1,9 @@
 // What no clause says of writing: the lines, and writes that fail.
-use crate::{Counts, Tally};
 use std::alloc::Allocator;
 use std::cell::Cell;
 use std::test::Fail;
 use std::{fmt, io};
+use tally::{Counts, Tally};
 
 // Two of three numbers have a name.
 fn name_of(number: usize) -> Option<&'static str> {

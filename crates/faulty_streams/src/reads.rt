@@ -1,5 +1,5 @@
 // What no clause says of reading: reads that are interrupted, and reads that fail.
-use crate::{next_word, read_word, replay_all, replay_records};
+use lines::{next_word, read_word, replay_all, replay_records};
 use std::io;
 use std::io::Read;
 use std::test::Fail;
